@@ -1,0 +1,5 @@
+pub mod LoopLemmas
+pub mod FirstLemmas
+pub mod ReadsLemmas
+pub mod WholeLemmas
+pub mod WordLemmas
