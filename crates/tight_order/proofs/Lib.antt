@@ -1,0 +1,5 @@
+pub mod PartLemmas
+pub mod RunLemmas
+pub mod StatementLemmas
+pub mod WeightLemmas
+pub mod StoreLemmas
