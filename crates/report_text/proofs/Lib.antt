@@ -1,0 +1,3 @@
+pub mod RisingLemmas
+pub mod RoundLemmas
+pub mod WritingLemmas

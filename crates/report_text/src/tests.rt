@@ -1,0 +1,33 @@
+use crate::{Refused, end_text, refusal_text, rounds_text};
+use seuss_base::List;
+use seuss_program::{LastLine, Order, Program, State};
+use std::test::Fail;
+
+#[test]
+fn refusals(rt: HostRuntime) -> Result<(), Fail> {
+    let cycle = refusal_text(rt.alloc(), &Refused::Cycle(6))?;
+    assert_eq!(rt; cycle.as_bytes(), b"refused cycle line 6\n".as_slice());
+    let attempts = refusal_text(rt.alloc(), &Refused::Attempts)?;
+    assert_eq!(rt; attempts.as_bytes(), b"refused attempts\n".as_slice());
+    Ok(())
+}
+
+#[test]
+fn report_of_nothing(rt: HostRuntime) -> Result<(), Fail> {
+    let program = Program {
+        cats: List::new(rt.alloc()),
+        boxes: List::new(rt.alloc()),
+        actions: List::new(rt.alloc()),
+    };
+    let order = Order {
+        list: List::new(rt.alloc()),
+    };
+    let state = State {
+        boxes: List::new(rt.alloc()),
+    };
+    let rounds = rounds_text(rt.alloc(), &program, &order, 1, 1)?;
+    assert_eq!(rt; rounds.as_bytes(), b"round 1\n".as_slice());
+    let end = end_text(rt.alloc(), &program, &LastLine::Done, &state)?;
+    assert_eq!(rt; end.as_bytes(), b"done\n".as_slice());
+    Ok(())
+}
