@@ -1,0 +1,58 @@
+-- What a run prints.
+use Rattle.std.specs.Prelude.{◌≡◌, ℕ, ◌%◌, ◌<◌, ℤ, Bool, false, List, [], ◌∷◌, ◌++◌, length, map, slice_index_or, All}
+use Rattle.seuss_base.specs.declared.outcome.Outcome.{Outcome}
+use Rattle.seuss_program.specs.declared.program.Program.{Program}
+use Rattle.seuss_program.specs.declared.state.State.{State}
+use Rattle.seuss_program.specs.declared.order.Placed.{Placed}
+use Rattle.seuss_program.specs.declared.order.LastLine.{LastLine}
+use Rattle.seuss_program.specs.declared.order.LastLine.TheVariants as L
+use Rattle.seuss_program.specs.Attempts.{tight}
+use Rattle.seuss_program.specs.Initials.{initial}
+use Rattle.seuss_program.specs.Orders.{stops, IsLawful}
+use Rattle.seuss_program.specs.Reports.{report, last_line}
+
+-- the actions of an order, and the outcomes
+abbrev pub actions_of : List Placed → List ℕ
+actions_of order = map (λ (p : Placed). p.action) order
+
+abbrev pub outcomes_of : List Placed → List Outcome
+outcomes_of order = map (λ (p : Placed). p.outcome) order
+
+-- Executing the actions of the order one at a time, from the start, each with the whole budget, gives
+-- the same outcomes and leaves exactly this state.
+pub record IsTight (p : Program) (start : State) (budget : ℕ) (order : List Placed) (state : State) : Type 0 where
+  pub outcomes : (tight p (actions_of order) start budget).outcomes ≡ outcomes_of order
+  pub boxes : (tight p (actions_of order) start budget).state ≡ state
+
+-- the status that a run ends with, by its last line
+abbrev pub status_of : LastLine → ℕ
+status_of L.Done = 0
+status_of (L.Trapped a t) = 1
+status_of (L.Spent a) = 2
+
+-- The text is the report of a lawful order of attempts, and executing them one at a time in that order,
+-- from the initial state with this input, gives the printed outcomes and exactly the printed boxes.
+pub record IsReport (p : Program) (input : List ℤ) (rounds budget status : ℕ) (text : List ℕ) : Type 0 where
+  pub order : List Placed
+  pub state : State
+  pub lawful : IsLawful (length p.actions) rounds order
+  pub one_at_a_time : IsTight p (initial p input) budget order state
+  pub printed : text ≡ report p rounds order state
+  pub ended : status ≡ status_of (last_line order)
+
+-- an order of n actions, of which attempt k stands at place k
+abbrev pub IsInTurn : ℕ → List Placed → Type 0
+IsInTurn n order = (k : ℕ) (d : Placed) → k < length order →
+    ((slice_index_or order k d).attempt ≡ k) × ((slice_index_or order k d).action ≡ k % n)
+
+-- no attempt stopped the run
+abbrev pub NoneStops : List Placed → Type 0
+NoneStops order = All (λ (p : Placed). stops p.outcome ≡ false) order
+
+-- One attempt more: its place in the run, its action, and its outcome, which says whether the run stops.
+pub record Adds (n attempt : ℕ) (before after : List Placed) (stopped : Bool) : Type 0 where
+  pub placed : Placed
+  pub last : after ≡ before ++ placed ∷ []
+  pub attempt_is : placed.attempt ≡ attempt
+  pub action_is : placed.action ≡ attempt % n
+  pub stopped_is : stopped ≡ stops placed.outcome
