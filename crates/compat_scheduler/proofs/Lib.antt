@@ -1,0 +1,13 @@
+mod KeptLemmas
+mod Memberships
+mod ModeLemmas
+mod OverlapLemmas
+mod ProgressLemmas
+mod Ranges
+mod RunLemmas
+mod SchedulerLemmas
+mod SlotLemmas
+mod SoundLemmas
+mod StopLemmas
+mod Sums
+mod TicketLemmas

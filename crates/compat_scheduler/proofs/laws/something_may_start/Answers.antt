@@ -1,0 +1,8 @@
+use Rattle.compat_scheduler.specs.Machines.{beginning}
+use Rattle.compat_scheduler.proofs.SoundLemmas.{sound-beginning}
+use Rattle.compat_scheduler.proofs.RunLemmas.{sound-runs}
+use Rattle.compat_scheduler.proofs.ProgressLemmas.{may_start}
+use Rattle.compat_scheduler.proofs.laws.something_may_start.Goals as goal
+
+pub returns : goal.returns
+returns c = λ s events m run. may_start s m (sound-runs s events (beginning s) m (sound-beginning s) run)

@@ -1,0 +1,21 @@
+use Rattle.std.proofs.Common.{◌≡◌, replicate, refl, ◌∙◌, ap, arith}
+use Rattle.seuss_base.specs.declared.level.Level.TheVariants.{Loose}
+use Rattle.compat_scheduler.specs.declared.slot.Slot.TheVariants.{Pending}
+use Rattle.compat_scheduler.specs.Settings.{copies}
+use Rattle.compat_scheduler.proofs.SchedulerLemmas.{scheduler-beginning}
+use Rattle.compat_scheduler.proofs.sched_core.SchedCore.new.Goals as goal
+
+pub invariant_of-result : goal.invariant_of-result
+invariant_of-result c =
+    let items : c.in_ok-slots.slots.items ≡ replicate (copies c.in_ok-setting.setting) (Pending Loose) =
+    c.in_ok-slots.ensures.items_if_clones_equal (λ y e. e) ∙ ap (λ n. replicate n
+    (Pending Loose)) c.copies.ensures.value in
+    rw (c.first_round-round.ensures, items) (scheduler-beginning c.in_ok-setting.setting
+    (omega (arith, c.copies.ensures.few)) (omega (arith, c.copies.ensures.fits, c.copies.ensures.value)))
+
+pub returns-clause-machine : goal.returns-clause-machine
+returns-clause-machine c =
+    let items : c.in_ok-slots.slots.items ≡ replicate (copies c.in_ok-setting.setting) (Pending Loose) =
+    c.in_ok-slots.ensures.items_if_clones_equal (λ y e. e) ∙ ap (λ n. replicate n
+    (Pending Loose)) c.copies.ensures.value in
+    rw (c.first_round-round.ensures, items) refl

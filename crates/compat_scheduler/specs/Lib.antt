@@ -1,0 +1,6 @@
+pub mod Finishes
+pub mod Machines
+pub mod Runs
+pub mod Settings
+pub mod Soundness
+pub mod Starts
