@@ -1,0 +1,5 @@
+pub mod Totals
+pub mod Closing
+pub mod LegalHistories
+pub mod Owns
+pub mod Steps
