@@ -12,7 +12,7 @@ mod token;
 mod words;
 
 pub use bytes::is_white;
-pub use laws::{one_reading, tokens_have_kinds, tokens_rise};
+pub use laws::{one_fault, one_reading, tokens_have_kinds, tokens_rise};
 pub use limits::digits_value;
 pub use reader::tokens;
 pub use refusal::TextRefusal;
