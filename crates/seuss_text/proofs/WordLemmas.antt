@@ -1,6 +1,6 @@
 -- Which words stand at the front of a text.
 use Rattle.std.proofs.Common.{◌≡◌, ◌≢◌, ℕ, suc, ◌+◌, ◌≤◌, Bool, true, false, cond, not, ◌&&◌, ◌⊎◌, List, [], ◌∷◌, ◌++◌, length, take, drop, refl, sym, ap, ◌∙◌, subst, inl, inr, arith, Some, None, Option}
-use Rattle.std.specs.Prelude.{nat_le}
+use Rattle.std.specs.Prelude.{nat_le, ◌==◌}
 use Rattle.std.specs.List.{list_all, prefix_len, slice_get, AllPass}
 use Rattle.std.specs.Char.{is_ascii_alphabetic, is_ascii_digit}
 use Rattle.std.specs.Str.{bytes_eq}
@@ -371,3 +371,13 @@ number_digits (b ∷ bs) e =
           (and_from _ _ digits.digit digits.all)
       | inr (inr marks) ↦ let h : Number ≡ Sign = marks.kind_is in cc
     ]
+
+-- the longest front whose items all pass is everything where all items pass
+pub all_in_front : {A : Type 0} (p : A → Bool) (xs : List A) → (prefix_len p xs == length xs) ≡ list_all p xs
+all_in_front p [] = refl
+all_in_front p (x ∷ xs) = first (p x) (all_in_front p xs)
+  where
+    first : (b : Bool) → (prefix_len p xs == length xs) ≡ list_all p xs →
+        (cond b (1 + prefix_len p xs) 0 == suc (length xs)) ≡ (b && list_all p xs)
+    first true same = grind (same, arith, nat_tests)
+    first false same = grind (arith, nat_tests)

@@ -19,7 +19,7 @@ keywords =
     codes "action" ∷ codes "is" ∷ codes "when" ∷ codes "let" ∷ codes "if" ∷ codes "then" ∷ codes "else" ∷
     codes "while" ∷ codes "do" ∷ codes "end" ∷ codes "semi" ∷ codes "int" ∷ codes "bool" ∷ codes "seq" ∷
     codes "true" ∷ codes "false" ∷ codes "and" ∷ codes "or" ∷ codes "not" ∷ codes "first" ∷ codes "last" ∷
-    codes "rest" ∷ codes "front" ∷ codes "len" ∷ codes "at" ∷ codes "add" ∷ []
+    codes "rest" ∷ codes "front" ∷ codes "back" ∷ codes "len" ∷ codes "at" ∷ codes "add" ∷ []
 
 -- the word stands in the table
 abbrev pub is_among : List (List ℕ) → List ℕ → Bool

@@ -18,6 +18,7 @@ pub use reader::tokens;
 pub use refusal::TextRefusal;
 pub use slices::{number_value, token_text};
 pub use token::{Token, TokenKind, Tokens};
+pub use words::is_name;
 
 #[cfg(test)]
 mod tests;

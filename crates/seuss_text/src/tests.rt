@@ -1,5 +1,6 @@
 use crate::{
-    TextRefusal, Token, TokenKind, digits_value, is_white, number_value, token_text, tokens,
+    TextRefusal, Token, TokenKind, digits_value, is_name, is_white, number_value, token_text,
+    tokens,
 };
 use std::test::Fail;
 
@@ -78,5 +79,23 @@ fn text_of_a_token(rt: HostRuntime) -> Result<(), Fail> {
     assert_eq!(rt; number_value(b"0042"), 42);
     assert_eq!(rt; digits_value(b"0042", 41), None);
     assert!(rt; is_white(b'\t'));
+    Ok(())
+}
+
+/// Every keyword is one, and no name.
+#[test]
+fn keywords(rt: HostRuntime) -> Result<(), Fail> {
+    let text =
+        b"seuss cat box var total partial action is when let if then else while do end semi int \
+        bool seq true false and or not first last rest front back len at add";
+    let found = tokens(rt.alloc(), text)?;
+    assert_eq!(rt; found.list.len(), 33);
+    for token in found.list.as_slice() {
+        assert_eq!(rt; token.kind, TokenKind::Keyword);
+    }
+    assert!(rt; !is_name(b"back"));
+    assert!(rt; is_name(b"backs"));
+    assert!(rt; !is_name(b"a.b"));
+    assert!(rt; !is_name(b""));
     Ok(())
 }

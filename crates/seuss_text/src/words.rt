@@ -1,9 +1,9 @@
-ghost use Rattle.std.specs.Prelude.{◌≡◌, MatchOption, if◌then◌else◌};
+ghost use Rattle.std.specs.Prelude.{◌≡◌, ◌↔◌, IsTrue, Some, MatchOption, if◌then◌else◌};
 ghost use Rattle.std.specs.List.{list_any, prefix_len};
 ghost use Rattle.std.specs.Char.{is_ascii_digit};
 ghost use Rattle.std.specs.Str.{bytes_eq};
 ghost use Rattle.seuss_text.specs.Bytes.{is_name_byte};
-ghost use Rattle.seuss_text.specs.Words.{signs, keywords, is_among, BeginsNoToken};
+ghost use Rattle.seuss_text.specs.Words.{signs, keywords, is_among, is_letters, kind_of, BeginsNoToken};
 ghost use Rattle.seuss_text.specs.Reading.{IsFrontWord, sign_len};
 ghost use Rattle.seuss_text.specs.declared.token.TokenKind.TheVariants.{Name, Keyword};
 
@@ -15,10 +15,11 @@ const SIGNS: [&[u8]; 24] = [
     b"[", b"]", b"=", b"<", b">", b"+", b"-", b"*", b"/", b"%",
 ];
 
-const KEYWORDS: [&[u8]; 32] = [
+const KEYWORDS: [&[u8]; 33] = [
     b"seuss", b"cat", b"box", b"var", b"total", b"partial", b"action", b"is", b"when", b"let",
     b"if", b"then", b"else", b"while", b"do", b"end", b"semi", b"int", b"bool", b"seq", b"true",
-    b"false", b"and", b"or", b"not", b"first", b"last", b"rest", b"front", b"len", b"at", b"add",
+    b"false", b"and", b"or", b"not", b"first", b"last", b"rest", b"front", b"back", b"len", b"at",
+    b"add",
 ];
 
 /// The kind and the length of the longest token at the front of a text, or None where none begins there.
@@ -94,4 +95,21 @@ fn sign_len(text: &[u8]) -> Option<usize>
     } else {
         None
     }
+}
+
+/// Whether a word is a letter, and behind it letters, digits and `_`.
+fn is_letters(word: &[u8]) -> bool
+    ensures { result ≡ is_letters word.now }
+{
+    match word.split_first() {
+        Some((first, rest)) => first.is_ascii_alphabetic() && letters_len(rest) == rest.len(),
+        None => false,
+    }
+}
+
+/// Whether a whole word is a name, of any length.
+pub fn is_name(word: &[u8]) -> bool
+    ensures { IsTrue result ↔ (kind_of word.now ≡ Some Name) }
+{
+    is_letters(word) && !is_keyword(word)
 }
