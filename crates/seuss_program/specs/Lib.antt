@@ -1,7 +1,9 @@
 pub mod Attempts
 pub mod Bodies
 pub mod Initials
+pub mod Keeping
 pub mod Orders
 pub mod Programs
 pub mod Reports
 pub mod Values
+pub mod WellFormed

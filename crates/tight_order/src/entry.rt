@@ -1,4 +1,4 @@
-ghost use Rattle.std.specs.Prelude.{◌≡◌, ◌++◌, pos, slice_index_or, IfOk, OnOk};
+ghost use Rattle.std.specs.Prelude.{◌≡◌, [], ◌++◌, pos, slice_index_or, IfOk, OnOk};
 ghost use Rattle.seuss_program.specs.Values.{int_of};
 ghost use Rattle.seuss_program.specs.declared.state.Value.TheVariants.{Int};
 ghost use Rattle.std.specs.List.{flat_map};
@@ -99,6 +99,14 @@ pub fn entry(alloc: Global, proc: &Proc<Ref>, args: List<Value>) -> Result<List<
         Form::Action(alternatives) => add_bound(alternatives.as_slice(), alloc, &mut slots)?,
     }
     Ok(slots)
+}
+
+/// The slots at the entry of a procedure without arguments: the result where there is one, and the
+/// locals.
+pub fn first_slots(alloc: Global, proc: &Proc<Ref>) -> Result<List<Value>, Memory>
+    ensures { IfOk result (λ slots. slots ≡ entry_slots proc.now []) }
+{
+    entry(alloc, proc, List::new(alloc))
 }
 
 /// The number in a slot, or 0 where there is no such slot.

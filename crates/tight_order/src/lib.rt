@@ -14,6 +14,10 @@ mod stop;
 mod store;
 mod value;
 
+pub use entry::first_slots;
+pub use stop::Stop;
+pub use value::{evaluate, number, truth};
+
 use crate::action::attempt_action;
 use seuss_base::{List, Memory};
 use seuss_program::{Outcomes, Program, State};

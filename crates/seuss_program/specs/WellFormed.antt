@@ -1,0 +1,76 @@
+-- What is true of a tree by its form alone: of every tree that a text spells.
+use Rattle.std.specs.Prelude.{◌≡◌, ◌≢◌, false, List, [], ◌∷◌, ◌++◌, All}
+use Rattle.std.specs.List.{flat_map}
+use Rattle.seuss_program.specs.declared.tree.Name.{Name}
+use Rattle.seuss_program.specs.declared.tree.Kind.{Kind}
+use Rattle.seuss_program.specs.declared.tree.Kind.TheVariants as K
+use Rattle.seuss_program.specs.declared.tree.Param.{Param}
+use Rattle.seuss_program.specs.declared.tree.Var.{Var}
+use Rattle.seuss_program.specs.declared.tree.Statement.{Statement, fold-Statement}
+use Rattle.seuss_program.specs.declared.tree.Statement.TheOpen as S
+use Rattle.seuss_program.specs.declared.tree.Statement.TheOpen.{Statement-F}
+use Rattle.seuss_program.specs.declared.tree.Alternative.{Alternative}
+use Rattle.seuss_program.specs.declared.tree.Form.{Form}
+use Rattle.seuss_program.specs.declared.tree.Form.TheVariants as F
+use Rattle.seuss_program.specs.declared.tree.Proc.{Proc}
+use Rattle.seuss_program.specs.declared.tree.Cat.{Cat}
+use Rattle.seuss_program.specs.declared.tree.Tree.{Tree}
+use Rattle.seuss_program.specs.declared.state.Value.{Value}
+use Rattle.seuss_program.specs.declared.state.Value.TheVariants as V
+
+-- a type of parameters and locals
+abbrev pub IsSmall : Kind → Type 0
+IsSmall K.Int = Unit {0}
+IsSmall K.Bool = Unit {0}
+IsSmall K.Seq = ⊥
+
+-- a value of this type
+abbrev pub HasKind : Value → Kind → Type 0
+HasKind (V.Int z) kind = kind ≡ K.Int
+HasKind (V.Bool b) kind = kind ≡ K.Bool
+HasKind (V.Seq zs) kind = kind ≡ K.Seq
+
+-- the types of the locals that a statement declares by `let`, in the order of the text
+abbrev pub kinds_step : Statement-F Name (List Kind) → List Kind
+kinds_step (S.Let name kind e) = kind ∷ []
+kinds_step (S.Assign name e) = []
+kinds_step (S.Call bind call) = []
+kinds_step (S.If cond holds fails) = flat_map (λ ks. ks) holds ++ flat_map (λ ks. ks) fails
+kinds_step (S.While cond turn) = flat_map (λ ks. ks) turn
+
+unfoldable pub let_kinds : Statement Name → List Kind
+let_kinds s = fold-Statement Name (List Kind) kinds_step s
+
+-- the locals of a body are no sequences
+abbrev pub HasSmallLocals : List (Statement Name) → Type 0
+HasSmallLocals body = All IsSmall (flat_map let_kinds body)
+
+-- there is an alternative, and the locals of each are no sequences
+pub record AreWellFormed (alternatives : List (Alternative Name)) : Type 0 where
+  pub some : alternatives ≢ []
+  pub bodies : All (λ (a : Alternative Name). HasSmallLocals a.body) alternatives
+
+-- an action has neither parameters nor a result
+pub record IsAlone (q : Proc Name) : Type 0 where
+  pub params : q.params ≡ []
+  pub gives : q.gives ≡ false
+
+abbrev pub HasWellFormed : Proc Name → Form Name → Type 0
+HasWellFormed q (F.Total body) = HasSmallLocals body
+HasWellFormed q (F.Partial alternatives) = AreWellFormed alternatives
+HasWellFormed q (F.Action alternatives) = AreWellFormed alternatives × IsAlone q
+
+-- the parameters of a procedure are no sequences, and so on for what it consists of
+pub record IsWellFormedProcedure (q : Proc Name) : Type 0 where
+  pub params : All (λ (x : Param). IsSmall x.kind) q.params
+  pub form : HasWellFormed q q.form
+
+-- each start value of a cat is of its variable's type
+pub record IsWellFormedCat (c : Cat Name) : Type 0 where
+  pub starts : All (λ (v : Var). HasKind v.start v.kind) c.vars
+  pub procs : All IsWellFormedProcedure c.procs
+
+-- A tree is well formed where start values have the types of their variables, parameters and locals are no
+-- sequences, actions have no parameters and no result, and each partial procedure has an alternative.
+abbrev pub IsWellFormed : Tree → Type 0
+IsWellFormed tree = All IsWellFormedCat tree.cats
