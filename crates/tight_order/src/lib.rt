@@ -14,14 +14,13 @@ mod stop;
 mod store;
 mod value;
 
-pub use entry::first_slots;
-pub use stop::Stop;
-pub use value::{evaluate, number, truth};
-
 use crate::action::attempt_action;
+pub use entry::first_slots;
 use seuss_base::{List, Memory};
 use seuss_program::{Outcomes, Program, State};
 use std::alloc::Global;
+pub use stop::Stop;
+pub use value::{evaluate, number, truth};
 
 /// Attempts actions one after the other, each with the whole budget, and answers their outcomes. The
 /// budget counts turns of loops and calls in bodies. After `Memory` the state is one in the midst of an
