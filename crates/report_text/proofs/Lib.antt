@@ -1,3 +1,4 @@
 pub mod RisingLemmas
 pub mod RoundLemmas
+pub mod TightLemmas
 pub mod WritingLemmas

@@ -1,1 +1,3 @@
+pub mod CheckTexts
 pub mod Refusals
+pub mod TightReports

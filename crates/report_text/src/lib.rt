@@ -1,17 +1,22 @@
-//! The texts of a run, byte for byte: the rounds and the end of a report, and refusals.
+//! The texts of a run, byte for byte: reports, the counts of a program, and refusals.
 #![tactic(auto)]
 
+mod checked;
 mod ends;
 mod names;
 mod numbers;
 mod outcomes;
 mod refusals;
 mod rounds;
+mod tight;
 mod values;
 
+pub use checked::check_text;
 pub use ends::end_text;
+pub use names::action_text;
 pub use refusals::{Refused, refusal_text};
 pub use rounds::rounds_text;
+pub use tight::{tight_end, tight_text};
 
 #[cfg(test)]
 mod tests;

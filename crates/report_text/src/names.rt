@@ -1,9 +1,10 @@
-ghost use Rattle.std.specs.Prelude.{◌≡◌, ◌++◌, slice_get, OnOk, option_copied};
+ghost use Rattle.std.specs.Prelude.{◌≡◌, ◌++◌, slice_get, IfOk, OnOk, option_copied};
 ghost use Rattle.seuss_program.specs.Programs.{procedure_of as proc_of};
 ghost use Rattle.seuss_program.specs.Reports.{action_name, box_name, proc_name};
 
 use seuss_base::{Memory, Text};
 use seuss_program::{Proc, Program, Ref};
+use std::alloc::Global;
 
 /// A procedure of a box, by its number in the cat of the box.
 fn procedure_of(program: &Program, box_number: u32, number: u32) -> Option<&Proc<Ref>>
@@ -50,4 +51,14 @@ pub fn push_action(text: &mut Text, program: &Program, action: u32) -> Result<()
     push_box(text, program, info.box_number)?;
     text.push_all(b".")?;
     push_procedure(text, program, info.box_number, info.procedure)
+}
+
+/// An action as it is printed: the names of its box and of the action, with a point between. Want of
+/// memory is the only error.
+pub fn action_text(alloc: Global, program: &Program, action: u32) -> Result<Text, Memory>
+    ensures { IfOk result (λ text. text ≡ action_name program.now (slice_get program.now.actions action)) }
+{
+    let mut text = Text::new(alloc);
+    push_action(&mut text, program, action)?;
+    Ok(text)
 }

@@ -55,7 +55,7 @@ fn run_of_round(order: &[Placed], actions: u64, round: u32) -> usize
 }
 
 /// Puts the line of an attempt at the end.
-fn push_attempt(text: &mut Text, program: &Program, entry: &Placed) -> Result<(), Memory>
+pub fn push_attempt(text: &mut Text, program: &Program, entry: &Placed) -> Result<(), Memory>
     ensures { OnOk result (text.new ≡ text.old ++ attempt_line program.now entry.now) }
 {
     push_action(text, program, entry.action)?;

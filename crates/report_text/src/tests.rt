@@ -1,6 +1,6 @@
-use crate::{Refused, end_text, refusal_text, rounds_text};
+use crate::{Refused, check_text, end_text, refusal_text, rounds_text, tight_text};
 use seuss_base::List;
-use seuss_program::{LastLine, Order, Program, State};
+use seuss_program::{LastLine, Order, Outcomes, Program, State};
 use std::test::Fail;
 
 #[test]
@@ -29,5 +29,15 @@ fn report_of_nothing(rt: HostRuntime) -> Result<(), Fail> {
     assert_eq!(rt; rounds.as_bytes(), b"round 1\n".as_slice());
     let end = end_text(rt.alloc(), &program, &LastLine::Done, &state)?;
     assert_eq!(rt; end.as_bytes(), b"done\n".as_slice());
+    let outcomes = Outcomes {
+        list: List::new(rt.alloc()),
+    };
+    let tight = tight_text(rt.alloc(), &program, &[], &outcomes, &state)?;
+    assert_eq!(rt; tight.as_bytes(), b"done\n".as_slice());
+    let counts = check_text(rt.alloc(), &program)?;
+    assert_eq!(rt;
+        counts.as_bytes(),
+        b"accepted cats 0 boxes 0 actions 0\n".as_slice()
+    );
     Ok(())
 }
