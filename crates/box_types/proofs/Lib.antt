@@ -1,3 +1,6 @@
-pub mod Differing
-pub mod NamesIn
-pub mod Small
+pub mod Judged
+pub mod Lines
+pub mod Numberings
+pub mod Numbers
+pub mod Registered
+pub mod Walked

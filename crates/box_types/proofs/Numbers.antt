@@ -1,0 +1,4 @@
+-- Lemmas on counts.
+use Rattle.std.proofs.lemmas.List.Sums.{count_by-le-length, count_by_more_no, count_by_more_yes}
+
+pub ruleset counting = (count_by-le-length, count_by_more_no, count_by_more_yes)

@@ -1,6 +1,0 @@
-use Rattle.std.proofs.Common.{◌≡◌, ◌++◌, drop}
-use Rattle.box_types.specs.Resolutions.{actions_among}
-use Rattle.box_types.proofs.resolutions.push_actions.Given as goal
-
-abbrev pub invariant-loop-number : goal.invariant-loop-number
-invariant-loop-number l = l.actions ++ actions_among l.box_number l.number (drop l.number l.procs) ≡ l.initial.actions ++ actions_among l.box_number 0 l.procs
