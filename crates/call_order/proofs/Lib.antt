@@ -1,0 +1,11 @@
+pub mod CallLemmas
+pub mod KeptCalls
+pub mod KeptCats
+pub mod KeptExpressions
+pub mod KeptJoins
+pub mod KeptProcedures
+pub mod KeptPrograms
+pub mod KeptStatements
+pub mod LevelLemmas
+pub mod MarkLemmas
+pub mod OrderLemmas
