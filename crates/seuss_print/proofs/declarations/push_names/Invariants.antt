@@ -1,0 +1,10 @@
+use Rattle.std.proofs.Common.{◌≡◌, ◌++◌, take}
+use Rattle.std.specs.List.{flat_map}
+use Rattle.seuss_print.specs.Items.{text_of, behind_comma}
+use Rattle.seuss_print.specs.Canonical.{box_name}
+use Rattle.seuss_print.proofs.declarations.push_names.Given as goal
+
+-- what went before is printed
+abbrev pub invariant-loop-other : goal.invariant-loop-other
+invariant-loop-other l =
+    l.text ≡ l.initial.text ++ text_of (flat_map (behind_comma box_name) (take l.other-index l.others))

@@ -1,0 +1,6 @@
+pub mod Canonical
+pub mod Expressions
+pub mod Items
+pub mod Lines
+pub mod Printable
+pub mod Statements

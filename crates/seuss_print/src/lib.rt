@@ -1,0 +1,15 @@
+//! Trees printed in their one canonical text.
+#![tactic(auto)]
+
+mod declarations;
+mod expressions;
+mod laws;
+mod numbers;
+mod statements;
+mod tree;
+
+pub use laws::parsed_is_printable;
+pub use tree::print;
+
+#[cfg(test)]
+mod tests;
