@@ -1,0 +1,11 @@
+pub mod Codes
+pub mod Steps
+pub mod Chains
+pub mod Fits
+pub mod Answers
+pub mod Lending
+pub mod Passes
+pub mod Kinds
+pub mod Singles
+pub mod Frames
+pub mod Lines
