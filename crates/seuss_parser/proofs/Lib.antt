@@ -1,5 +1,31 @@
-pub mod LoopLemmas
-pub mod FirstLemmas
-pub mod ReadsLemmas
-pub mod WholeLemmas
-pub mod WordLemmas
+mod AheadReads
+mod CallReads
+mod ChoiceReads
+mod CommonReads
+mod DeclarationReads
+mod ExpressionReads
+mod FirstSets
+mod FrontLemmas
+mod InputAnswers
+mod InputNumbers
+mod InputReads
+mod InputWords
+mod LastLineLemmas
+mod LevelLemmas
+mod ListLemmas
+mod LoopLemmas
+mod NamedReads
+mod OneAnswer
+mod ProgramAnswers
+mod RepeatReads
+mod Samples
+mod Sets
+mod StatementLemmas
+mod StatementReads
+mod SymbolLemmas
+mod Tells
+mod ThenReads
+mod TreeLemmas
+mod WholeLemmas
+mod WordReads
+mod WordTests

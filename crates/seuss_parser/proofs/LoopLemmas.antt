@@ -4,53 +4,67 @@ use Rattle.std.proofs.Common.{length, refl, sym, ap, subst, ◌∙◌, append_as
 use Rattle.std.specs.Result.{IsErrAnd}
 use Rattle.std.proofs.lemmas.Result.{err_from_is_err_and}
 use Rattle.std.proofs.lemmas.Grind.{common_steps}
-use Rattle.seuss_parser.specs.Readings.{Read, Gives, Got, Refused, Reading, read_as, with_first, many_up_to}
-use Rattle.seuss_parser.specs.Readings.{many}
+use Rattle.seuss_parser.specs.Readings.{Fault, Unexpected, TooDeep, Read, Gives, Got, Refused, Reading}
+use Rattle.seuss_parser.specs.Readings.{read_as}
+use Rattle.seuss_parser.specs.Readings.{with_front, many_up_to, many}
+use Rattle.seuss_parser.specs.Fronts.{begins_as}
+use Rattle.seuss_parser.specs.Trees.{with_first}
 use Rattle.seuss_parser.specs.declared.stop.Stop.{Stop}
 use Rattle.seuss_parser.specs.declared.stop.Stop.TheVariants as stops
+use Rattle.seuss_parser.specs.declared.word.Sort.{Sort}
 use Rattle.seuss_parser.specs.declared.word.Word.{Word}
 
+-- a refusal of one is that of the other
+abbrev pub HandsOn : {A B : Type 0} → Read A → Read B → Type 0
+HandsOn read target =
+    (fault : Fault) (rest : List Word) → read ≡ Refused fault rest → target ≡ Refused fault rest
+
 -- the exit of a `?` gives a refusal where its call gave one
-pub gives-error : {A B : Type 0} (read : Read A) (target : Read B) (left later : ℕ)
-    (rest behind : List Word) (e : Stop) (result : Result B Stop) →
-    (read ≡ Refused → target ≡ Refused) → Gives {A = A} (Err e) left rest read →
-    IsErrAnd result (λ y. y ≡ e) → Gives result later behind target
-gives-error {A} {B} read target left later rest behind e result refused gives exit =
+pub gives-error : {A B : Type 0} (read : Read A) (target : Read B) (left later : ℕ) (rest : List Word)
+    (e : Stop) (result : Result B Stop) →
+    HandsOn read target → Gives {A = A} (Err e) left rest read →
+    IsErrAnd result (λ y. y ≡ e) → Gives result later rest target
+gives-error {A} {B} read target left later rest e result refused gives exit =
     let found : (y : Stop) × (result ≡ Err y) ×
     (y ≡ e) = err_from_is_err_and {Q = λ y. y ≡ e} result exit in
     let same : result ≡ Err e = found.1 ∙ ap Err found.2 in
-    subst (λ (r : Result B Stop). Gives r later behind target) (sym same) (by_cause e gives)
+    subst (λ (r : Result B Stop). Gives r later rest target) (sym same) (by_cause e gives)
   where
-    by_cause : (e : Stop) → Gives {A = A} (Err e) left rest read → Gives {A = B} (Err e) later behind target
-    by_cause stops.Refused gives = refused gives
+    by_cause : (e : Stop) → Gives {A = A} (Err e) left rest read → Gives {A = B} (Err e) later rest target
+    by_cause stops.Unexpected gives = refused Unexpected rest gives
+    by_cause stops.TooDeep gives = refused TooDeep rest gives
     by_cause stops.Memory gives = tt
 
+-- words whose first one passes a test are some
+pub begins-some : (test : Sort → Bool) (words : List Word) → begins_as test words ≡ true → 0 < length words
+begins-some test [] begins = absurd (cc)
+begins-some test (word ∷ words) begins = omega arith
+
 -- Reading goes on at these words: with what was read before, it gives what was to be read.
-pub record GoesOn {A B : Type 0} (starts : List Word → Bool) (one : Reading A) (finish : List A →
-    B) (room : ℕ) (words : List Word)
-    (target : Read B) : Type 0 where
+pub record GoesOn {A B : Type 0} (starts : List Word → Bool) (one : Reading A) (finish : List A → B)
+    (room : ℕ) (words : List Word) (target : Read B) : Type 0 where
   pub fuel : ℕ
   pub fits : length words ≤ fuel
   pub same : read_as finish (many_up_to fuel starts one room words) ≡ target
 
-read_as-with_first : {A B : Type 0} (finish : List A → B) (value : A) (read : Read (List A)) →
-    read_as finish (with_first value read) ≡ read_as (λ values. finish (value ∷ values)) read
-read_as-with_first finish value (Got values left rest) = refl
-read_as-with_first finish value Refused = refl
+read_as-with_front : {A B : Type 0} (finish : List A → B) (value : A) (read : Read (List A)) →
+    read_as finish (with_front value read) ≡ read_as (λ values. finish (value ∷ values)) read
+read_as-with_front finish value (Got values left rest) = refl
+read_as-with_front finish value (Refused fault rest) = refl
 
 read_as-same : {A B : Type 0} (f g : A → B) → ((a : A) → f a ≡ g a) → (read : Read A) →
     read_as f read ≡ read_as g read
 read_as-same f g same (Got value left rest) = ap (λ b. Got b left rest) (same value)
-read_as-same f g same Refused = refl
+read_as-same f g same (Refused fault rest) = refl
 
 read_as-id : {A : Type 0} (f : A → A) → ((a : A) → f a ≡ a) → (read : Read A) → read_as f read ≡ read
 read_as-id f same (Got value left rest) = ap (λ b. Got b left rest) (same value)
-read_as-id f same Refused = refl
+read_as-id f same (Refused fault rest) = refl
 
 module _ {A B : Type 0} (starts : List Word → Bool) (one : Reading A) where
   -- one more phrase was read
-  pub goes_on-step : (finish after : List A →
-      B) (room : ℕ) (words : List Word) (target : Read B) (value : A) (left : ℕ) (rest : List Word) →
+  pub goes_on-step : (finish after : List A → B) (room : ℕ) (words : List Word) (target : Read B)
+      (value : A) (left : ℕ) (rest : List Word) →
       GoesOn starts one finish room words target → starts words ≡ true →
       one room words ≡ Got value left rest →
       length rest < length words → ((values : List A) → finish (value ∷ values) ≡ after values) →
@@ -67,29 +81,25 @@ module _ {A B : Type 0} (starts : List Word → Bool) (one : Reading A) where
         fits = omega arith;
         same =
             let unrolled : read_as finish (many_up_to (suc fuel) starts one room words) ≡
-            read_as finish (with_first value (many_up_to fuel starts one left rest)) =
+            read_as finish (with_front value (many_up_to fuel starts one left rest)) =
             rw (begins, read) refl in
             sym (read_as-same (λ values. finish (value ∷ values)) after same
             (many_up_to fuel starts one left rest)) ∙
-            sym (read_as-with_first finish value (many_up_to fuel starts one left rest)) ∙ sym unrolled ∙
+            sym (read_as-with_front finish value (many_up_to fuel starts one left rest)) ∙ sym unrolled ∙
             before;
       }
 
   -- a phrase that begins is refused
   pub goes_on-refused : (finish : List A → B) (room : ℕ) (words : List Word) (target : Read B) →
-      GoesOn starts one finish room words target → starts [] ≡ false → starts words ≡ true →
-      one room words ≡ Refused → target ≡ Refused
-  goes_on-refused finish room words target on none begins read = step on.fuel on.fits on.same
+      GoesOn starts one finish room words target → 0 < length words → starts words ≡ true →
+      HandsOn (one room words) target
+  goes_on-refused finish room words target on some begins fault rest read = step on.fuel on.fits on.same
     where
-      some : (xs : List Word) → starts xs ≡ true → 0 < length xs
-      some [] h = absurd (cc)
-      some (x ∷ xs) h = omega arith
-
       step : (fuel : ℕ) → length words ≤ fuel →
-          read_as finish (many_up_to fuel starts one room words) ≡ target → target ≡ Refused
-      step zero fits before = let more : 0 < length words = some words begins in absurd (omega arith)
+          read_as finish (many_up_to fuel starts one room words) ≡ target → target ≡ Refused fault rest
+      step zero fits before = absurd (omega arith)
       step (suc fuel) fits before =
-          let unrolled : read_as finish (many_up_to (suc fuel) starts one room words) ≡ Refused =
+          let unrolled : read_as finish (many_up_to (suc fuel) starts one room words) ≡ Refused fault rest =
           rw (begins, read) refl in
           sym before ∙ unrolled
 
@@ -108,15 +118,14 @@ module _ {A B : Type 0} (starts : List Word → Bool) (one : Reading A) where
           sym before ∙ unrolled
 
   -- a phrase that begins can't be read
-  pub goes_on-error : (finish : List A →
-      B) (room : ℕ) (words : List Word) (target : Read B) (left later : ℕ) (rest behind : List Word)
-      (e : Stop) (result : Result B Stop) →
-      GoesOn starts one finish room words target → starts [] ≡ false → starts words ≡ true →
+  pub goes_on-error : (finish : List A → B) (room : ℕ) (words : List Word) (target : Read B)
+      (left later : ℕ) (rest : List Word) (e : Stop) (result : Result B Stop) →
+      GoesOn starts one finish room words target → 0 < length words → starts words ≡ true →
       Gives {A = A} (Err e) left rest (one room words) → IsErrAnd result (λ y. y ≡ e) →
-      Gives result later behind target
-  goes_on-error finish room words target left later rest behind e result on none begins gives exit =
-      gives-error (one room words) target left later rest behind e result
-      (λ refused. goes_on-refused finish room words target on none begins refused) gives exit
+      Gives result later rest target
+  goes_on-error finish room words target left later rest e result on some begins gives exit =
+      gives-error (one room words) target left later rest e result
+      (goes_on-refused finish room words target on some begins) gives exit
 
   -- nothing was read yet
   pub goes_on-first : (finish : List A → B) (room : ℕ) (words : List Word) →
@@ -124,10 +133,9 @@ module _ {A B : Type 0} (starts : List Word → Bool) (one : Reading A) where
   goes_on-first finish room words = record { fuel = length words; fits = omega arith; same = refl }
 
 -- Reading goes on at these words: behind these values it gives what was to be read.
-pub record Collects {A : Type 0} (starts : List Word →
-    Bool) (one : Reading A) (values : List A) (room : ℕ) (words : List Word)
-    (target : Read (List A)) : Type 0 where
-  pub on : GoesOn starts one (λ more. values ++ more) room words target
+pub record Collects {A : Type 0} (starts : List Word → Bool) (one : Reading A) (values : List A) (room : ℕ)
+    (words : List Word) (target : Read (List A)) : Type 0 where
+  pub on : GoesOn starts one (λ others. values ++ others) room words target
 
 module _ {A : Type 0} (starts : List Word → Bool) (one : Reading A) where
   -- nothing was collected yet
@@ -137,35 +145,35 @@ module _ {A : Type 0} (starts : List Word → Bool) (one : Reading A) where
     on = record {
       fuel = length words;
       fits = omega arith;
-      same = read_as-id (λ more. [] ++ more) (λ more. refl) (many starts one room words);
+      same = read_as-id (λ others. [] ++ others) (λ others. refl) (many starts one room words);
     };
   }
 
+  -- one value was there before
+  pub collects-begun : (first : A) (values : List A) (room : ℕ) (words : List Word) → values ≡ first ∷ [] →
+      Collects starts one values room words (read_as (with_first first) (many starts one room words))
+  collects-begun first values room words is = record {
+    on = rw is (record { fuel = length words; fits = omega arith; same = refl });
+  }
+
   -- one more value was collected
-  pub collects-step : {values after : List A} {room : ℕ} {words : List Word} {target : Read
-      (List A)} {value : A} {left : ℕ} {rest : List Word} →
+  pub collects-step : {values after : List A} {room : ℕ} {words : List Word} {target : Read (List A)}
+      {value : A} {left : ℕ} {rest : List Word} →
       Collects starts one values room words target → starts words ≡ true →
       one room words ≡ Got value left rest →
       length rest < length words → after ≡ values ++ value ∷ [] → Collects starts one after left rest target
   collects-step {values} {after} {room} {words} {target} {value} {left} {rest} so_far begins read shorter
       pushed = record {
-        on = goes_on-step starts one (λ more. values ++ more)
-            (λ more. after ++ more) room words target value left rest so_far.on begins read shorter
-            (λ more. rw pushed (sym (append_assoc values (value ∷ []) more)));
+        on = goes_on-step starts one (λ others. values ++ others)
+            (λ others. after ++ others) room words target value left rest so_far.on begins read shorter
+            (λ others. rw pushed (sym (append_assoc values (value ∷ []) others)));
       }
-
-  -- a value that begins is refused
-  pub collects-refused : {values : List A} {room : ℕ} {words : List Word} {target : Read (List A)} →
-      Collects starts one values room words target → starts [] ≡ false → starts words ≡ true →
-      one room words ≡ Refused → target ≡ Refused
-  collects-refused {values} {room} {words} {target} so_far none begins read =
-      goes_on-refused starts one (λ more. values ++ more) room words target so_far.on none begins read
 
   -- no value begins any more
   pub collects-done : {values : List A} {room : ℕ} {words : List Word} {target : Read (List A)} →
       Collects starts one values room words target → starts words ≡ false → target ≡ Got values room words
   collects-done {values} {room} {words} {target} so_far begins =
-      goes_on-done starts one (λ more. values ++ more) room words target so_far.on begins ∙
+      goes_on-done starts one (λ others. values ++ others) room words target so_far.on begins ∙
       ap (λ all. Got all room words) append_nil
     where
       append_nil : values ++ [] ≡ values
@@ -173,12 +181,10 @@ module _ {A : Type 0} (starts : List Word → Bool) (one : Reading A) where
 
   -- a value that begins can't be read
   pub collects-error : {values : List A} {room : ℕ} {words : List Word} {target : Read (List A)}
-      (left later : ℕ) (rest behind : List Word)
-      (e : Stop) (result : Result (List A) Stop) →
-      Collects starts one values room words target → starts [] ≡ false → starts words ≡ true →
+      (left later : ℕ) (rest : List Word) (e : Stop) (result : Result (List A) Stop) →
+      Collects starts one values room words target → 0 < length words → starts words ≡ true →
       Gives {A = A} (Err e) left rest (one room words) → IsErrAnd result (λ y. y ≡ e) →
-      Gives result later behind target
-  collects-error {values} {room} {words} {target} left later rest behind e result so_far none begins gives
-      exit =
-      gives-error (one room words) target left later rest behind e result
-      (λ refused. collects-refused so_far none begins refused) gives exit
+      Gives result later rest target
+  collects-error {values} {room} {words} {target} left later rest e result so_far some begins gives exit =
+      goes_on-error starts one (λ others. values ++ others) room words target left later rest e result
+      so_far.on some begins gives exit

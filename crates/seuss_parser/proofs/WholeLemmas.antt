@@ -1,98 +1,71 @@
--- A program of all the words, and of no words beside.
-use Rattle.std.proofs.Common.{◌≡◌, ℕ, List, [], ◌∷◌, ◌++◌, refl, sym, ap, subst, ◌∙◌, Result, Ok, Err}
-use Rattle.std.specs.Result.{IsErrAnd}
-use Rattle.std.proofs.lemmas.Result.{err_from_is_err_and}
-use Rattle.seuss_parser.specs.Readings.{Got, Refused, Gives}
-use Rattle.seuss_parser.specs.FirstReading.{read_program}
-use Rattle.seuss_parser.specs.Spelling.{AreProgram, SpellsFirst, words_of}
-use Rattle.seuss_parser.specs.Answers.{ReadsWhole, Finds, IsUnbuilt}
-use Rattle.seuss_text.specs.Rows.{AreTokens}
-use Rattle.seuss_text.specs.Limits.{AreInLimits}
-use Rattle.seuss_text.specs.declared.token.Token.{Token}
-use Rattle.seuss_parser.specs.declared.refusal.FirstRefusal.{FirstRefusal}
-use Rattle.seuss_parser.specs.declared.refusal.FirstRefusal.TheVariants as refusals
+-- What reading a whole program answers, as the parser is to answer.
+use Rattle.std.proofs.Common.{◌≡◌, ℕ, List, [], ◌∷◌, refl, sym, ◌∙◌, ap, Ok, Err}
+use Rattle.seuss_parser.specs.Answers.{Parses, last_line}
+use Rattle.seuss_parser.specs.DeclarationReading.{read_program}
+use Rattle.seuss_parser.specs.Readings.{Read, Gives, Got, Refused, Unexpected, TooDeep, read_then}
+use Rattle.seuss_parser.specs.WholeReading.{ends_here, read_whole_program, front_line, refusal_of}
+use Rattle.seuss_parser.specs.declared.refusal.ParseRefusal.TheVariants as refusals
 use Rattle.seuss_parser.specs.declared.stop.Stop.{Stop}
 use Rattle.seuss_parser.specs.declared.stop.Stop.TheVariants as stops
 use Rattle.seuss_parser.specs.declared.word.Word.{Word}
 use Rattle.seuss_program.specs.declared.tree.Tree.{Tree}
-use Rattle.seuss_parser.proofs.FirstLemmas.{reads-program}
+use Rattle.seuss_parser.proofs.ProgramAnswers.{found-parses, more-parses, unexpected-parses, ended-parses}
+use Rattle.seuss_parser.proofs.ProgramAnswers.{deep-parses, deep-not_end}
 
-append-nothing : (words : List Word) → words ++ [] ≡ words
-append-nothing [] = refl
-append-nothing (word ∷ words) = ap (λ ws. word ∷ ws) (append-nothing words)
+module _ (words : List Word) where
+  -- the tree of a program behind which no word is left
+  pub whole-found : (tree : Tree) (left : ℕ) (rest : List Word) →
+      read_whole_program 0 words ≡ Got tree left rest → Parses (Ok tree) words
+  whole-found tree left rest read = by_program (read_program 0 words) refl read
+    where
+      by_program : (program : Read Tree) → read_program 0 words ≡ program →
+          read_then program ends_here ≡ Got tree left rest → Parses (Ok tree) words
+      by_program (Got found room []) is ends =
+          let same : found ≡ tree = cc in
+          found-parses words tree room (is ∙ ap (λ t. Got t room []) same)
+      by_program (Got found room (word ∷ behind)) is ends = absurd (cc)
+      by_program (Refused fault behind) is ends = absurd (cc)
 
--- the words of a program are read as that program, with nothing left
-program-read : (words : List Word) (tree : Tree) (p : AreProgram words tree) →
-    read_program 0 words ≡ Got tree p.unused []
-program-read words tree p =
-    subst (λ ws. read_program 0 ws ≡ Got tree p.unused []) (append-nothing words)
-    (reads-program.only tree 0 words p.unused [] p.derives refl)
+  -- the place where no program goes on
+  pub whole-unexpected : (rest : List Word) → read_whole_program 0 words ≡ Refused Unexpected rest →
+      Parses (Err (refusals.Syntax (front_line rest (last_line words)))) words
+  whole-unexpected rest read = by_program (read_program 0 words) refl read
+    where
+      by_program : (program : Read Tree) → read_program 0 words ≡ program →
+          read_then program ends_here ≡ Refused Unexpected rest →
+          Parses (Err (refusals.Syntax (front_line rest (last_line words)))) words
+      by_program (Got found room []) is ends = absurd (cc)
+      by_program (Got found room (word ∷ behind)) is ends =
+          let same : word ∷ behind ≡ rest = cc in
+          rw (sym same) (more-parses words found room word behind is)
+      by_program (Refused Unexpected []) is ends =
+          let same : [] ≡ rest = cc in
+          rw (sym same) (ended-parses words is)
+      by_program (Refused Unexpected (word ∷ behind)) is ends =
+          let same : word ∷ behind ≡ rest = cc in
+          rw (sym same) (unexpected-parses words word behind is)
+      by_program (Refused TooDeep behind) is ends = absurd (cc)
 
--- what is read with nothing left is a program, and no other
-pub whole-found : (room : ℕ) (words : List Word) (tree : Tree) (left : ℕ) → room ≡ 0 →
-    read_program room words ≡ Got tree left [] →
-    AreProgram words tree × ((other : Tree) → AreProgram words other → tree ≡ other)
-whole-found room words tree left none got =
-    let at : read_program 0 words ≡ Got tree left [] = ap (λ n. read_program n words) (sym none) ∙ got in
-    let part = reads-program.sound 0 words tree left [] at in
-    let all : words ≡ part.0 = part.1 ∙ append-nothing part.0 in (
-      record { unused = left; derives = rw all part.2 },
-      λ other p. let read =
-          program-read words other p in cc,
-    )
+  -- the place where a limit is passed
+  pub whole-deep : (rest : List Word) → read_whole_program 0 words ≡ Refused TooDeep rest →
+      Parses (Err (refusals.Nesting (front_line rest (last_line words)))) words
+  whole-deep rest read = by_program (read_program 0 words) refl read
+    where
+      by_program : (program : Read Tree) → read_program 0 words ≡ program →
+          read_then program ends_here ≡ Refused TooDeep rest →
+          Parses (Err (refusals.Nesting (front_line rest (last_line words)))) words
+      by_program (Got found room []) is ends = absurd (cc)
+      by_program (Got found room (word ∷ behind)) is ends = absurd (cc)
+      by_program (Refused Unexpected behind) is ends = absurd (cc)
+      by_program (Refused TooDeep []) is ends = absurd (deep-not_end words is)
+      by_program (Refused TooDeep (word ∷ behind)) is ends =
+          let same : word ∷ behind ≡ rest = cc in
+          rw (sym same) (deep-parses words word behind is)
 
--- what is read with words left is no program
-pub whole-more : (room : ℕ) (words : List Word) (tree : Tree) (left : ℕ) (word : Word) (rest : List Word) →
-    room ≡ 0 →
-    read_program room words ≡ Got tree left (word ∷ rest) → (other : Tree) → AreProgram words other → ⊥
-whole-more room words tree left word rest none got other p =
-    let at : read_program 0 words ≡ Got tree left (word ∷ rest) =
-    ap (λ n. read_program n words) (sym none) ∙ got in
-    let read = program-read words other p in
-    cc
-
--- what isn't read is no program
-pub whole-refused : (room : ℕ) (words : List Word) → room ≡ 0 → read_program room words ≡ Refused →
-    (other : Tree) → AreProgram words other → ⊥
-whole-refused room words none got other p =
-    let at : read_program 0 words ≡ Refused = ap (λ n. read_program n words) (sym none) ∙ got in
-    let read = program-read words other p in
-    cc
-
--- the exit of a `?` on what was read
-pub whole-error : (room : ℕ) (words : List Word) (left : ℕ) (rest : List Word) (e : Stop)
-    (result : Result Tree Stop) → room ≡ 0 →
-    Gives {A = Tree} (Err e) left rest (read_program room words) → IsErrAnd result (λ y. y ≡ e) →
-    ReadsWhole result words
-whole-error room words left rest e result none gives exit =
-    let found : (y : Stop) × (result ≡ Err y) ×
-    (y ≡ e) = err_from_is_err_and {Q = λ y. y ≡ e} result exit in
-    let same : result ≡ Err e = found.1 ∙ ap Err found.2 in
-    subst (λ (r : Result Tree Stop). ReadsWhole r words) (sym same) (by_cause e gives)
-  where
-    by_cause : (e : Stop) → Gives {A = Tree} (Err e) left rest (read_program room words) →
-        ReadsWhole (Err e) words
-    by_cause stops.Refused gives = whole-refused room words none gives
-    by_cause stops.Memory gives = tt
-
--- no text that is refused spells a tree that would have been found
-unbuilt-unfound : (result : Result Tree FirstRefusal) (tree : Tree) → IsUnbuilt result →
-    Finds result tree → ⊥
-unbuilt-unfound (Ok found) tree refused finds = refused
-unbuilt-unfound (Err (refusals.Unbuilt line)) tree refused finds = finds
-unbuilt-unfound (Err refusals.TooLong) tree refused finds = refused
-unbuilt-unfound (Err refusals.Memory) tree refused finds = refused
-
--- a text whose words are refused spells nothing
-pub unbuilt-spells_nothing : (text : List ℕ) (tokens : List Token) (words : List Word)
-    (result : Result Tree FirstRefusal) →
-    ((others : List Token) → AreTokens text others → AreInLimits text others → tokens ≡ others) →
-    words ≡ words_of text tokens →
-    ((tree : Tree) → AreProgram words tree → Finds result tree) → IsUnbuilt result → (tree : Tree) →
-    SpellsFirst text tree → ⊥
-unbuilt-spells_nothing text tokens words result same are_words only refused tree spelled =
-    let all : tokens ≡ spelled.tokens = same spelled.tokens spelled.are_tokens spelled.in_limits in
-    let derived : words_of text spelled.tokens ≡ words = ap (λ xs. words_of text xs) (sym all) ∙
-    sym are_words in
-    unbuilt-unfound result tree refused (only tree (subst
-    (λ ws. AreProgram ws tree) derived spelled.derives))
+  -- the refusal, from why reading stopped
+  pub whole-stopped : (stop : Stop) (left : ℕ) (rest : List Word) →
+      Gives {A = Tree} (Err stop) left rest (read_whole_program 0 words) →
+      Parses (Err (refusal_of stop (front_line rest (last_line words)))) words
+  whole-stopped stops.Unexpected left rest gives = whole-unexpected rest gives
+  whole-stopped stops.TooDeep left rest gives = whole-deep rest gives
+  whole-stopped stops.Memory left rest gives = tt

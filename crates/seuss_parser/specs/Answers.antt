@@ -1,30 +1,68 @@
--- What a call of the parser answers.
-use Rattle.std.specs.Prelude.{◌≡◌, List, Result, Ok, Err}
-use Rattle.seuss_parser.specs.Spelling.{AreProgram}
-use Rattle.seuss_parser.specs.declared.refusal.FirstRefusal.{FirstRefusal}
-use Rattle.seuss_parser.specs.declared.refusal.FirstRefusal.TheVariants.{Unbuilt, TooLong, Memory}
-use Rattle.seuss_parser.specs.declared.stop.Stop.{Stop}
-use Rattle.seuss_parser.specs.declared.stop.Stop.TheVariants as stops
+-- What the parser answers, and where a refusal stands.
+use Rattle.std.specs.Prelude.{◌≡◌, ℕ, true, List, [], ◌∷◌, ◌++◌, Result, Ok, Err}
+use Rattle.seuss_parser.specs.Phrases.{Piece, words_in, AreKept}
+use Rattle.seuss_parser.specs.Spelling.{Derives, AreProgram, BeginsProgram, IsViable}
+use Rattle.seuss_parser.specs.declared.refusal.ParseRefusal.{ParseRefusal}
+use Rattle.seuss_parser.specs.declared.refusal.ParseRefusal.TheVariants.{Syntax, Nesting, Memory}
 use Rattle.seuss_parser.specs.declared.word.Word.{Word}
 use Rattle.seuss_program.specs.declared.tree.Tree.{Tree}
 
--- the answer is exactly this tree, or want of memory
-abbrev pub Finds : Result Tree FirstRefusal → Tree → Type 0
-Finds (Ok found) tree = found ≡ tree
-Finds (Err (Unbuilt line)) tree = ⊥
-Finds (Err TooLong) tree = ⊥
-Finds (Err Memory) tree = Unit {0}
+-- some program begins with these words, and none of them passes a limit there
+pub record IsBeginning (words : List Word) : Type 0 where
+  pub pieces : List Piece
+  pub kept : AreKept pieces
+  pub words_are : words_in pieces ≡ words
+  pub begins : BeginsProgram pieces
 
--- the text is refused at some line
-abbrev pub IsUnbuilt : Result Tree FirstRefusal → Type 0
-IsUnbuilt (Ok found) = ⊥
-IsUnbuilt (Err (Unbuilt line)) = Unit {0}
-IsUnbuilt (Err TooLong) = ⊥
-IsUnbuilt (Err Memory) = ⊥
+-- the line of the last word, or 1 where there is none
+abbrev pub last_line : List Word → ℕ
+last_line [] = 1
+last_line (word ∷ []) = word.line
+last_line (word ∷ next ∷ words) = last_line (next ∷ words)
 
--- all the words are the program that is answered and no other, or a refusal where they are none
-abbrev pub ReadsWhole : Result Tree Stop → List Word → Type 0
-ReadsWhole (Ok found) words =
-    AreProgram words found × ((tree : Tree) → AreProgram words tree → found ≡ tree)
-ReadsWhole (Err stops.Refused) words = (tree : Tree) → AreProgram words tree → ⊥
-ReadsWhole (Err stops.Memory) words = Unit {0}
+-- no program goes on behind these words with the next one, which stands on this line; or they are the whole
+-- text, and no program
+abbrev pub IsNotGoneOn : List Word → List Word → ℕ → Type 0
+IsNotGoneOn front [] line = (line ≡ last_line front) ×
+    ((pieces : List Piece) (tree : Tree) → Derives pieces tree → words_in pieces ≡ front → ⊥)
+IsNotGoneOn front (word ∷ rest) line = (line ≡ word.line) × (IsViable (front ++ word ∷ []) → ⊥)
+
+-- the first word with which no program continues the words before it, or the end of them
+pub record IsSyntax (words : List Word) (line : ℕ) : Type 0 where
+  pub front : List Word
+  pub rest : List Word
+  pub words_are : words ≡ front ++ rest
+  pub begins : IsBeginning front
+  pub ends : IsNotGoneOn front rest line
+
+-- Every program that begins with these words and this one has it past a limit, and there is one.
+pub record Passes (front : List Word) (word : Word) : Type 0 where
+  pub pieces : List Piece
+  pub kept : AreKept pieces
+  pub words_are : words_in pieces ≡ front
+  pub begins : BeginsProgram (pieces ++ record { word = word; passes = true } ∷ [])
+  pub always : (others : List Piece) (last : Piece) → BeginsProgram (others ++ last ∷ []) →
+      words_in others ≡ front → last.word ≡ word → last.passes ≡ true
+
+-- the first word that passes a limit
+pub record IsNesting (words : List Word) (line : ℕ) : Type 0 where
+  pub front : List Word
+  pub word : Word
+  pub rest : List Word
+  pub words_are : words ≡ front ++ word ∷ rest
+  pub line_is : line ≡ word.line
+  pub passes : Passes front word
+
+-- what the parser answers for these words: the one tree that they are, or the place of the refusal
+abbrev pub Parses : Result Tree ParseRefusal → List Word → Type 0
+Parses (Ok tree) words = AreProgram words tree × ((other : Tree) → AreProgram words other → other ≡ tree)
+Parses (Err (Syntax line)) words = IsSyntax words line
+Parses (Err (Nesting line)) words = IsNesting words line
+Parses (Err Memory) words = Unit {0}
+
+-- an answer that says something of the words: memory didn't run out
+abbrev pub IsAnswered : Result Tree ParseRefusal → Type 0
+IsAnswered (Ok tree) = Unit {0}
+IsAnswered (Err (Syntax line)) = Unit {0}
+IsAnswered (Err (Nesting line)) = Unit {0}
+IsAnswered (Err Memory) = ⊥

@@ -1,33 +1,38 @@
--- What a single word is read as.
-use Rattle.std.specs.Prelude.{ℕ, Bool, true, false, ℤ, pos, negsuc, ◌==◌, List, [], ◌∷◌, Option, Some, None}
+-- Words: the tokens of a text as the grammar sees them, and what a single word is read as.
+use Rattle.std.specs.Prelude.{◌≡◌, ℕ, Bool, false, ℤ, pos, negsuc, ◌==◌, List, map, Option, Some, None}
 use Rattle.std.specs.Prelude.{if◌then◌else◌}
+use Rattle.seuss_text.specs.Rows.{token_text}
+use Rattle.seuss_text.specs.Limits.{decimal_value}
+use Rattle.seuss_text.specs.Words.{kind_of}
+use Rattle.seuss_text.specs.declared.token.Token.{Token}
+use Rattle.seuss_text.specs.declared.token.TokenKind.{TokenKind}
+use Rattle.seuss_text.specs.declared.token.TokenKind.TheVariants as K
+use Rattle.seuss_parser.specs.Symbols.{symbol_number, keyword_of, sign_of}
 use Rattle.seuss_parser.specs.declared.symbol.Symbol.{Symbol}
-use Rattle.seuss_parser.specs.declared.symbol.Symbol.TheVariants as S
 use Rattle.seuss_parser.specs.declared.word.Sort.{Sort}
 use Rattle.seuss_parser.specs.declared.word.Sort.TheVariants.{Fixed, Name as Named, Number}
 use Rattle.seuss_parser.specs.declared.word.Word.{Word}
+use Rattle.seuss_parser.specs.declared.word.Numeral.{Numeral}
+use Rattle.seuss_parser.specs.declared.word.Marked.{Marked}
 use Rattle.seuss_program.specs.declared.tree.Name.{Name}
-use Rattle.seuss_program.specs.declared.tree.Expr.{Expr}
-use Rattle.seuss_program.specs.declared.tree.Node.{Node}
-use Rattle.seuss_program.specs.declared.tree.Node.TheVariants as N
 
--- the place of a symbol in the list of them all
-abbrev pub symbol_number : Symbol → ℕ
-symbol_number S.Seuss = 0
-symbol_number S.Cat = 1
-symbol_number S.Box = 2
-symbol_number S.Var = 3
-symbol_number S.Action = 4
-symbol_number S.When = 5
-symbol_number S.End = 6
-symbol_number S.Int = 7
-symbol_number S.True = 8
-symbol_number S.Colon = 9
-symbol_number S.Arrow = 10
-symbol_number S.Assign = 11
-symbol_number S.Plus = 12
-symbol_number S.Less = 13
-symbol_number S.Other = 14
+-- what a token of this kind and text is to the grammar
+abbrev pub sort_of : TokenKind → List ℕ → Sort
+sort_of K.Name bytes = Named bytes
+sort_of K.Number bytes = Number (pos (decimal_value bytes))
+sort_of K.Sign bytes = Fixed (sign_of bytes)
+sort_of K.Keyword bytes = Fixed (keyword_of bytes)
+
+abbrev pub word_of : List ℕ → Token → Word
+word_of text token = record { line = token.line; sort = sort_of token.kind (token_text text token) }
+
+abbrev pub words_of : List ℕ → List Token → List Word
+words_of text tokens = map (λ token. word_of text token) tokens
+
+-- a token within its limit may be this to the grammar
+pub record IsSortOf (bytes : List ℕ) (kind : TokenKind) (sort : Sort) : Type 0 where
+  pub is_token : kind_of bytes ≡ Some kind
+  pub is_sort : sort ≡ sort_of kind bytes
 
 -- the sort is this symbol
 abbrev pub is_symbol : Symbol → Sort → Bool
@@ -49,6 +54,16 @@ name_of line (Number value) = None
 abbrev pub as_name : Word → Option Name
 as_name word = name_of word.line word.sort
 
+-- a word's number with its line
+abbrev pub numeral_of : ℕ → Sort → Option Numeral
+numeral_of line (Fixed symbol) = None
+numeral_of line (Named text) = None
+numeral_of line (Number value) = Some (record { value = value; line = line })
+
+-- a word that is a number
+abbrev pub as_numeral : Word → Option Numeral
+as_numeral word = numeral_of word.line word.sort
+
 -- the number is 1
 abbrev pub is_one : ℤ → Bool
 is_one (pos n) = n == 1
@@ -64,32 +79,16 @@ version_of (Number value) = if is_one value then Some tt else None
 abbrev pub as_version : Word → Option (Unit {0})
 as_version word = version_of word.sort
 
--- an expression of this line
-abbrev pub expression : ℕ → Node Name → Expr Name
-expression line node = record { line = line; node = node }
+-- what a symbol stands for in a table, with the line of the word
+abbrev pub marked_as : {A : Type 0} → ℕ → Option A → Option (Marked A)
+marked_as line None = None
+marked_as line (Some a) = Some (record { is = a; line = line })
 
--- the term that a single word is
-abbrev pub term_of : ℕ → Sort → Option (Expr Name)
-term_of line (Fixed symbol) = None
-term_of line (Named text) = Some (expression line (N.Name (record { text = text; line = line })))
-term_of line (Number value) = Some (expression line (N.Int value))
+abbrev pub meaning_of : {A : Type 0} → (Symbol → Option A) → ℕ → Sort → Option (Marked A)
+meaning_of table line (Fixed symbol) = marked_as line (table symbol)
+meaning_of table line (Named text) = None
+meaning_of table line (Number value) = None
 
--- a word that is a term
-abbrev pub as_term : Word → Option (Expr Name)
-as_term word = term_of word.line word.sort
-
--- the words begin with this symbol
-abbrev pub begins_with : Symbol → List Word → Bool
-begins_with symbol [] = false
-begins_with symbol (word ∷ words) = is_symbol symbol word.sort
-
--- the sort is a name
-abbrev pub is_name : Sort → Bool
-is_name (Fixed symbol) = false
-is_name (Named text) = true
-is_name (Number value) = false
-
--- the words begin with a name
-abbrev pub begins_with_name : List Word → Bool
-begins_with_name [] = false
-begins_with_name (word ∷ words) = is_name word.sort
+-- a word that is one of the symbols of a table
+abbrev pub as_one_of : {A : Type 0} → (Symbol → Option A) → Word → Option (Marked A)
+as_one_of table word = meaning_of table word.line word.sort

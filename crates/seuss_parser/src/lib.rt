@@ -1,19 +1,34 @@
 //! Texts of the notation, read as trees.
 #![tactic(auto)]
 
-mod first;
-mod parse;
+mod declarations;
+mod expressions;
+mod input;
+mod laws;
+mod level;
+mod lists;
+mod natural;
+mod procedures;
+mod programs;
 mod refusal;
 mod spelling;
+mod statements;
 mod stop;
 mod symbol;
+mod tables;
 mod word;
 mod words;
 
-pub use parse::parse_first;
-pub use refusal::FirstRefusal;
-use symbol::Symbol;
-use word::{Sort, Word};
+pub use input::{InputRefusal, one_input, parse_input};
+pub use laws::one_answer;
+use level::Level;
+pub use natural::Natural;
+pub use programs::parse;
+pub use refusal::ParseRefusal;
+pub use symbol::Symbol;
+pub use word::{Behind, Marked, Numeral, Sort, Word};
 
+#[cfg(test)]
+mod input_tests;
 #[cfg(test)]
 mod tests;

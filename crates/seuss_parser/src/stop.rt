@@ -6,8 +6,10 @@ use seuss_base::Memory;
 /// Why reading stopped before its end.
 #[derive(Clone, Copy, Debug, PartialEq, Eq)]
 pub(crate) enum Stop {
-    /// The word taken last goes on nothing of the grammar, or there was none.
-    Refused,
+    /// The next word goes on nothing of the grammar, or there is none.
+    Unexpected,
+    /// The next word passes a limit of marks or nesting.
+    TooDeep,
     Memory,
 }
 

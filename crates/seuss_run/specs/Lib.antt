@@ -1,5 +1,9 @@
 pub mod Answers
 pub mod Commands
+pub mod Loadings
 pub mod Readings
 pub mod Runs
+pub mod Splits
+pub mod Stages
+pub mod Verdicts
 pub mod Writings

@@ -1,18 +1,28 @@
-ghost use Rattle.std.specs.Prelude.{◌≡◌, ℕ, ◌*◌, ◌≤◌, ◌<◌, ◌↔◌, List, [], length, IsTrue, IfOk};
+ghost use Rattle.std.specs.Prelude.{◌≡◌, ℕ, ◌*◌, ◌≤◌, ◌<◌, ◌↔◌, List, length, IsTrue, IfOk};
 ghost use Rattle.report_text.specs.Refusals.{refusal};
-ghost use Rattle.seuss_run.specs.Answers.{Answers, attempts_in};
+ghost use Rattle.seuss_run.specs.Answers.{Answers, IsTightReport};
+ghost use Rattle.seuss_run.specs.Loadings.{Performs};
+ghost use Rattle.seuss_run.specs.Verdicts.{attempts_in};
 ghost use Rattle.seuss_run.specs.Commands.{IsCommand};
 ghost use Rattle.seuss_run.specs.Runs.{IsReport, status_of as status_after};
 ghost use Rattle.seuss_program.specs.Reports.{last_line as last_line_of};
 
+use crate::actions::action_numbers;
+use crate::halt::Halt;
+use crate::loading::{Job, load, load_tree};
 use crate::run::{MOST_ATTEMPTS, run_rounds};
 use crate::words::Command;
-use box_types::resolve_first;
-use report_text::{Refused, end_text, refusal_text, rounds_text};
-use seuss_base::{Ints, Memory, Outcome, Text};
-use seuss_parser::{FirstRefusal, parse_first};
-use seuss_program::{LastLine, Placed, Program};
+use report_text::{
+    Refused, check_text, end_text, refusal_text, rounds_text, tight_end, tight_text,
+};
+use seuss_base::{List as Items, Memory, Outcome, Text};
+use seuss_print::print;
+use seuss_program::{LastLine, Placed, Program, initial_state};
 use std::alloc::Global;
+use tight_order::tight;
+
+/// The budget of an attempt where the words name none.
+const DEFAULT_BUDGET: u64 = 10_000;
 
 /// A status below 5, and the whole text that is written with it.
 #[derive(Debug, Drop)]
@@ -57,19 +67,34 @@ fn status_of(last: LastLine) -> u8
     }
 }
 
-/// Runs a program without input, and answers its report.
-fn run(alloc: Global, program: &Program, rounds: u32, budget: u64) -> Result<Answer, Memory>
-    requires few { length program.now.actions ≤ 256 }
+/// Runs a program with its input, and answers its report.
+fn run(alloc: Global, job: &Job, rounds: u32, budget: u64) -> Result<Answer, Memory>
+    requires few { length job.now.program.actions ≤ 256 }
     requires rounds { rounds ≤ 10000000 }
-    ensures { IfOk result (λ a. IsReport program.now [] rounds budget a.status a.text) }
+    ensures { IfOk result (λ a. IsReport job.now.program job.now.input rounds budget a.status a.text) }
 {
-    let made = run_rounds(alloc, program, &Ints::new(alloc), rounds, budget)?;
+    let program = &job.program;
+    let made = run_rounds(alloc, program, &job.input, rounds, budget)?;
     let last = last_line(made.order.list.as_slice());
     let mut text = rounds_text(alloc, program, &made.order, 1, rounds)?;
     text.push_all(end_text(alloc, program, &last, &made.state)?.as_bytes())?;
     Ok(Answer {
         status: status_of(last),
         text,
+    })
+}
+
+/// Attempts actions one after the other, and answers the report of them.
+fn attempt_actions(alloc: Global, job: &Job, actions: &[u32]) -> Result<Answer, Memory>
+    ensures { IfOk result (λ a. IsTightReport (job.now.program, job.now.input) actions.now a.status a.text) }
+{
+    let program = &job.program;
+    let mut state = initial_state(alloc, program, &job.input)?;
+    let outcomes = tight(alloc, program, &mut state, actions, DEFAULT_BUDGET)?;
+    let last = tight_end(actions, outcomes.list.as_slice());
+    Ok(Answer {
+        status: status_of(last),
+        text: tight_text(alloc, program, actions, &outcomes, &state)?,
     })
 }
 
@@ -81,43 +106,86 @@ fn is_too_long(program: &Program, rounds: u32) -> bool
     u64::from(rounds) * program.actions.len().max(1) > MOST_ATTEMPTS
 }
 
-/// What the command `run` answers to the bytes that were read. The one worker makes all attempts.
-#[tactic(auto, unfolding(crate::specs::Answers::Answers))]
-fn answer_run(
+/// What the command `run` does. The one worker makes all attempts.
+fn perform_run(
     alloc: Global,
     rounds: u32,
-    _workers: u32,
+    workers: u32,
     budget: u64,
     bytes: &[u8],
-) -> Result<Answer, Memory>
-    requires { rounds ≤ 10000000 }
-    ensures { IfOk result (λ a. Answers (Command.Run rounds _workers budget) bytes.now a.status a.text) }
+) -> Result<Answer, Halt>
+    requires short { length bytes.now ≤ 2097156 }
+    requires rounds { rounds ≤ 10000000 }
+    ensures { Performs (Command.Run rounds workers budget) bytes.now result }
 {
-    let tree = match parse_first(alloc, bytes) {
-        Ok(tree) => tree,
-        Err(FirstRefusal::TooLong) => return refused(alloc, Refused::Long),
-        Err(FirstRefusal::Unbuilt(line)) => return refused(alloc, Refused::Unbuilt(Some(line))),
-        Err(FirstRefusal::Memory) => return Err(Memory),
-    };
-    let Some(program) = resolve_first(alloc, &tree)? else {
-        return refused(alloc, Refused::Unbuilt(None));
-    };
-    if is_too_long(&program, rounds) {
-        return refused(alloc, Refused::Attempts);
+    let job = load(alloc, bytes)?;
+    if is_too_long(&job.program, rounds) {
+        return Err(Halt::Refused(Refused::Attempts));
     }
-    run(alloc, &program, rounds, budget)
+    Ok(run(alloc, &job, rounds, budget)?)
 }
 
-/// What a command answers to the bytes that were read.
-pub(crate) fn answer_bytes(alloc: Global, command: Command, bytes: &[u8]) -> Result<Answer, Memory>
-    requires { (words : List (List ℕ)) × IsCommand words command }
-    ensures { IfOk result (λ a. Answers command bytes.now a.status a.text) }
+/// What the command `tight` does.
+fn perform_tight(alloc: Global, names: &Items<(Text, Text)>, bytes: &[u8]) -> Result<Answer, Halt>
+    requires short { length bytes.now ≤ 2097156 }
+    ensures { Performs (Command.Tight names.now) bytes.now result }
+{
+    let job = load(alloc, bytes)?;
+    let actions = action_numbers(alloc, &job.program, names.as_slice())?;
+    Ok(attempt_actions(alloc, &job, actions.as_slice())?)
+}
+
+/// What the command `check` does.
+fn perform_check(alloc: Global, bytes: &[u8]) -> Result<Answer, Halt>
+    requires short { length bytes.now ≤ 2097156 }
+    ensures { Performs Command.Check bytes.now result }
+{
+    let job = load(alloc, bytes)?;
+    Ok(Answer {
+        status: 0,
+        text: check_text(alloc, &job.program)?,
+    })
+}
+
+/// What the command `print` does.
+fn perform_print(alloc: Global, bytes: &[u8]) -> Result<Answer, Halt>
+    requires short { length bytes.now ≤ 2097156 }
+    ensures { Performs Command.Print bytes.now result }
+{
+    let tree = load_tree(alloc, bytes)?;
+    Ok(Answer {
+        status: 0,
+        text: print(alloc, &tree)?,
+    })
+}
+
+/// What a command does with the bytes that were read, or why they are refused.
+fn perform(alloc: Global, command: &Command, bytes: &[u8]) -> Result<Answer, Halt>
+    requires command { (words : List (List ℕ)) × IsCommand words command.now }
+    requires short { length bytes.now ≤ 2097156 }
+    ensures { Performs command.now bytes.now result }
 {
     match command {
         Command::Run {
             rounds,
             workers,
             budget,
-        } => answer_run(alloc, rounds, workers, budget, bytes),
+        } => perform_run(alloc, *rounds, *workers, *budget, bytes),
+        Command::Tight { actions } => perform_tight(alloc, actions, bytes),
+        Command::Check => perform_check(alloc, bytes),
+        Command::Print => perform_print(alloc, bytes),
+    }
+}
+
+/// What a command answers to the bytes that were read.
+pub(crate) fn answer_bytes(alloc: Global, command: &Command, bytes: &[u8]) -> Result<Answer, Memory>
+    requires command { (words : List (List ℕ)) × IsCommand words command.now }
+    requires short { length bytes.now ≤ 2097156 }
+    ensures { IfOk result (λ a. Answers command.now bytes.now a.status a.text) }
+{
+    match perform(alloc, command, bytes) {
+        Ok(answer) => Ok(answer),
+        Err(Halt::Refused(reason)) => refused(alloc, reason),
+        Err(Halt::Memory) => Err(Memory),
     }
 }

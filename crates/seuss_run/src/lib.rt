@@ -1,15 +1,21 @@
 //! The command line as functions over words, a source and a sink.
 #![tactic(auto)]
 
+mod actions;
 mod answer;
+mod halt;
+mod laws;
+mod loading;
 mod reading;
 mod run;
+mod split;
 mod top;
 mod words;
 mod writing;
 
+pub use laws::one_verdict;
 pub use reading::{MOST_BYTES, ReadRefusal, read_all};
-pub use top::seuss;
+pub use top::{seuss, seuss_still};
 pub use words::{Command, read_words};
 pub use writing::write_all;
 

@@ -94,29 +94,32 @@ fn runs(rt: HostRuntime) -> Result<(), Fail> {
 #[test]
 fn refusals(rt: HostRuntime) -> Result<(), Fail> {
     let once = ["run", "1", "1"];
-    expect(&rt, &once, "seuss 2", 3, "refused unbuilt line 1\n")?;
-    expect(
-        &rt,
-        &once,
-        "seuss 1\ncat C end x",
-        3,
-        "refused unbuilt line 2\n",
-    )?;
-    expect(
-        &rt,
-        &once,
-        "seuss 1 cat C action a when true ; c.m() -> end end",
-        3,
-        "refused unbuilt line 1\n",
-    )?;
-    expect(
-        &rt,
-        &once,
-        "seuss 1 cat C end cat C end",
-        3,
-        "refused unbuilt\n",
-    )?;
-    expect(&rt, &once, "seuss 1 box b : C", 3, "refused unbuilt\n")?;
+    for (text, line) in [
+        ("seuss 2", "refused syntax line 1\n"),
+        ("seuss 1\ncat C end x", "refused syntax line 2\n"),
+        ("seuss 1\nbox \u{e9} : Input", "refused byte line 2\n"),
+        (
+            "seuss 1 cat C\nvar n : int = 9223372036854775808 end",
+            "refused range line 2\n",
+        ),
+        ("seuss 1 cat C end\ncat C end", "refused twice line 2\n"),
+        ("seuss 1\nbox b : C", "refused unknown line 2\n"),
+        (
+            "seuss 1 cat C var n : int action a\nwhen n -> end end",
+            "refused type line 2\n",
+        ),
+        (
+            "seuss 1 cat A(b : B) end cat B(a : A) end\nbox a : A(b)\nbox b : B(a)",
+            "refused cycle line 2\n",
+        ),
+        ("seuss 1\n%%\n1\n x\n", "refused input line 2\n"),
+        (
+            "seuss 1 cat C var n : int total m() is end\nsemi m, m end",
+            "refused unbuilt line 2\n",
+        ),
+    ] {
+        expect(&rt, &once, text, 3, line)?;
+    }
     expect(
         &rt,
         &["run", "100001", "1"],
@@ -133,6 +136,73 @@ fn refusals(rt: HostRuntime) -> Result<(), Fail> {
         expect(&rt, &words, COUNTER, 4, "usage\n")?;
     }
     expect(&rt, &["walk"], COUNTER, 4, "usage\n")?;
+    Ok(())
+}
+
+/// A channel that moves its input on, on several lines.
+const CHANNEL: &str = "seuss 1\ncat Channel var q : seq total put(x : int) is q := add(q, x) end \
+     partial get() : int when len(q) > 0 -> result := first(q) q := rest(q) end end \
+     cat Mover(i : Input, c : Channel) action move when true ; v := i.read() -> c.put(v) end end \
+     cat Taker(c : Channel, o : Output) action take when true ; v := c.get() -> o.write(v) end end \
+     box i : Input box c : Channel box o : Output box s : Mover(i, c) box k : Taker(c, o)\n%%\n7";
+
+/// A loop of three turns.
+const LOOP: &str = "seuss 1 cat Loop var n : int action spin when true -> let j : int := 0 \
+     while j < 3 do j := j + 1 n := n + 1 end end end box b : Loop";
+
+#[test]
+fn commands(rt: HostRuntime) -> Result<(), Fail> {
+    expect(
+        &rt,
+        &["check"],
+        CHANNEL,
+        0,
+        "accepted cats 3 boxes 5 actions 2\n",
+    )?;
+    expect(
+        &rt,
+        &["tight", "k.take", "s.move"],
+        CHANNEL,
+        0,
+        "k.take rejected\ns.move accepted\ni.q = []\nc.q = [7]\no.q = []\ndone\n",
+    )?;
+    expect(&rt, &["tight", "k.move"], CHANNEL, 3, "refused action\n")?;
+    expect(
+        &rt,
+        &["run", "1", "1"],
+        CHANNEL,
+        0,
+        "round 1\ns.move accepted\nk.take accepted\ni.q = []\nc.q = []\no.q = [7]\ndone\n",
+    )?;
+    expect(
+        &rt,
+        &["run", "1", "1", "3"],
+        LOOP,
+        0,
+        "round 1\nb.spin accepted\nb.n = 3\ndone\n",
+    )?;
+    expect(
+        &rt,
+        &["run", "1", "1", "2"],
+        LOOP,
+        2,
+        "round 1\nb.spin spent\nb.n = 2\nspent b.spin\n",
+    )?;
+    expect(
+        &rt,
+        &["print"],
+        "seuss 1 # a comment\r\n cat C var n : int = 0 action a when true -> n := (n + 1) * 2 end end\n%%\nx",
+        0,
+        "seuss 1\ncat C\n  var n : int\n  action a\n    when true ->\n      n := (n + 1) * 2\n  end\nend\n",
+    )?;
+    for words in [
+        ["check", "x"],
+        ["print", "1"],
+        ["tight", "a"],
+        ["tight", "a.b.c"],
+    ] {
+        expect(&rt, &words, CHANNEL, 4, "usage\n")?;
+    }
     Ok(())
 }
 

@@ -2,7 +2,7 @@ use Rattle.std.proofs.Common.{◌≡◌, ℕ, ◌+◌, ◌<◌, List, [], ◌∷
 use Rattle.std.proofs.lemmas.List.{take_more, map-append}
 use Rattle.seuss_text.specs.declared.token.Token.{Token}
 use Rattle.seuss_text.specs.declared.token.TokenKind.TheVariants as K
-use Rattle.seuss_parser.specs.Spelling.{word_of, words_of}
+use Rattle.seuss_parser.specs.Words.{word_of, words_of}
 use Rattle.seuss_parser.specs.declared.word.Word.{Word}
 use Rattle.seuss_parser.proofs.spelling.text_words.Goals as goal
 

@@ -1,5 +1,5 @@
 use Rattle.std.proofs.Common.{◌≡◌, ◌≤◌, length, take}
-use Rattle.seuss_parser.specs.Spelling.{words_of}
+use Rattle.seuss_parser.specs.Words.{words_of}
 use Rattle.seuss_parser.proofs.spelling.text_words.Given as goal
 
 abbrev pub invariant-loop-at : goal.invariant-loop-at

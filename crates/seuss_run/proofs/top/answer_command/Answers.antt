@@ -1,5 +1,5 @@
 use Rattle.std.proofs.Common.{Err, ap, ◌∙◌, inr}
-use Rattle.seuss_run.proofs.Reasons.{long_answers}
+use Rattle.seuss_run.proofs.TopLemmas.{long_answers}
 use Rattle.seuss_run.proofs.top.answer_command.Goals as goal
 
 -- more bytes were taken than are read
@@ -9,6 +9,6 @@ returns-in_ok-refused-in-Err-TooLong-clause-answers g c =
     let told = c.in_ok-refused-in-Err-TooLong.ensures in (
       taken.0,
       inr (taken.1, taken.2),
-      long_answers c.args.command taken.0 c.in_ok-refused-in-Err-TooLong.field-0.status
+      long_answers c.args.command.now taken.0 c.in_ok-refused-in-Err-TooLong.field-0.status
           c.in_ok-refused-in-Err-TooLong.field-0.text taken.1 told.status told.text,
     )

@@ -1,0 +1,7 @@
+use Rattle.seuss_parser.proofs.TreeLemmas.{minus-step}
+use Rattle.seuss_parser.proofs.expressions.with_minus.Goals as goal
+
+pub loop-line-preserved : goal.loop-line-preserved
+loop-line-preserved c = record {
+  same = minus-step _ _ _ _ _ _ c.loop-line.invariant.same c.in-Some.ensures c.in_ok-part.ensures;
+}
