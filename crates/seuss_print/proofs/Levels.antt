@@ -7,6 +7,7 @@ use Rattle.seuss_parser.specs.Grammar.{IsMark, IsBehind, IsChain, IsPrimary, IsU
 use Rattle.seuss_parser.specs.declared.word.Behind.{Behind}
 use Rattle.seuss_parser.specs.declared.symbol.Symbol.{Symbol}
 use Rattle.seuss_parser.specs.declared.symbol.Symbol.TheVariants as S
+use Rattle.seuss_print.specs.Places.{IsOfLevel}
 use Rattle.seuss_program.specs.declared.tree.Name.{Name}
 use Rattle.seuss_program.specs.declared.tree.Op.{Op}
 use Rattle.seuss_program.specs.declared.tree.Expr.{Expr}
@@ -140,14 +141,7 @@ chain-more ops Part e next room mid left ps qs d x =
 module _ (Inner : Phrase (Expr Name)) where
   -- the production of each level
   abbrev pub Level : ℕ → Phrase (Expr Name)
-  Level zero = IsDisjunction Inner
-  Level (suc zero) = IsConjunction Inner
-  Level (suc (suc zero)) = IsNegation Inner
-  Level (suc (suc (suc zero))) = IsComparison Inner
-  Level (suc (suc (suc (suc zero)))) = IsSum Inner
-  Level (suc (suc (suc (suc (suc zero))))) = IsProduct Inner
-  Level (suc (suc (suc (suc (suc (suc zero)))))) = IsUnary Inner
-  Level (suc (suc (suc (suc (suc (suc (suc n))))))) = IsPrimary Inner
+  Level n = IsOfLevel Inner n
 
   pub unary-more : (line : ℕ) (e : Expr Name) (room mid left : ℕ) (ps qs : List Piece) → IsMark S.Minus line room ps mid → IsUnary Inner e mid qs left →
       IsUnary Inner (G.expression line (N.Neg e)) room (ps ++ qs) left

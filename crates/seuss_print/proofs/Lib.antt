@@ -16,9 +16,11 @@ pub mod ParsedExpressions
 pub mod ParsedLists
 pub mod ParsedStatements
 pub mod ParsedTrees
+pub mod PlaceLemmas
 pub mod Printable
 pub mod PrintedRows
 pub mod Spelled
 pub mod TokenEnds
 pub mod Trees
+pub mod Unlined
 pub mod WordSorts

@@ -1,5 +1,5 @@
 -- A tree that is read from tokens within their limits is printable.
-use Rattle.std.proofs.Common.{◌≡◌, ℕ, false, List, [], ◌∷◌, All, Some, subst, sym}
+use Rattle.std.proofs.Common.{◌≡◌, ℕ, false, List, [], ◌∷◌, All, Some, subst, sym, length, ◌≤◌, arith, ap, suc, refl}
 use Rattle.std.specs.List.{AllByRecursion, flat_map}
 use Rattle.std.proofs.lemmas.List.Elements.{recursion_from_All, All-from_recursion}
 use Rattle.seuss_text.specs.Words.{kind_of}
@@ -116,3 +116,21 @@ printable text tokens tree kinds limits p =
       tokens = All-from_recursion IsWithinLimit (tokens_in (program tree)) x.short.good;
       kept = All-from_recursion IsKeptCat tree.cats (all_as FineCat IsKeptCat kept-cat tree.cats x.is);
     }
+
+-- what the words of a program give
+pub program-words : (text : List ℕ) (tokens : List Token) (tree : Tree) → All (λ token. kind_of (token_text text token) ≡ Some token.kind) tokens →
+    AreInLimits text tokens → AreProgram (words_of text tokens) tree → length (tokens_in (program tree)) ≤ length tokens
+program-words text tokens tree kinds limits p =
+    let good = good-words text tokens (recursion_from_All _ tokens kinds) (recursion_from_All _ tokens limits) in
+    let fine : AreFine p.pieces = are-fine p.pieces (recursion_from_All (λ (x : Piece). x.passes ≡ false) p.pieces p.kept)
+    (subst (λ words. AllByRecursion GoodWord words) (sym p.words_are) good) in
+    let x = (gives-program p.derives.brackets p.derives.blocks 0).of tree p.pieces p.derives.unused p.derives.derives fine in
+    omega (arith, x.short.few, piece-count p.pieces, token-count text tokens, ap (λ (ws : List Word). length ws) p.words_are)
+  where
+    piece-count : (ps : List Piece) → length (words_in ps) ≡ length ps
+    piece-count [] = refl
+    piece-count (p ∷ ps) = ap (λ n. suc n) (piece-count ps)
+
+    token-count : (text : List ℕ) (ts : List Token) → length (words_of text ts) ≡ length ts
+    token-count text [] = refl
+    token-count text (t ∷ ts) = ap (λ n. suc n) (token-count text ts)

@@ -8,7 +8,7 @@ mod numbers;
 mod statements;
 mod tree;
 
-pub use laws::parsed_is_printable;
+pub use laws::{fewest_tokens, lines_dont_show, parentheses_are_needed, parsed_is_printable};
 pub use tree::print;
 
 #[cfg(test)]
