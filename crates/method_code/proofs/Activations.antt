@@ -22,7 +22,8 @@ use Rattle.method_code.specs.Steps.{Stepped, step, step_in}
 use Rattle.method_code.specs.Chains.{Turned, Next, Over, turned, begun, accepted, rejected, after_accepted, after_rejected, last_of}
 use Rattle.method_code.specs.Kinds.{steps_made, steps_on, IsAction}
 use Rattle.method_code.specs.Frames.{IsFrame, IsPlace, Rejection, Result as AtResult, Return, IsWaiting, IsCall, FitsEnd}
-use Rattle.method_code.specs.Lines.{InLine, Own, Early, InTail, OfLine, OfTail, body_calls, early_calls, EachMade, FindsVars, IsOwnStep}
+use Rattle.seuss_program.specs.Lines.{InLine, Own, Early, InTail, OfLine, OfTail, body_calls, early_calls}
+use Rattle.method_code.specs.OwnSteps.{EachMade, FindsVars, IsOwnStep}
 use Rattle.method_code.proofs.Places.{stands, coded, scope, keeps_procedure, calls_below}
 use Rattle.method_code.proofs.Attempting.{named}
 use Rattle.method_code.proofs.Phases.{Each, each_push, each_get, each_take}

@@ -34,7 +34,7 @@ use Rattle.method_code.specs.declared.frame.End.TheVariants as E
 use Rattle.method_code.specs.Codes.{code_of, code_step, joined, call_code, given_number, early_of, take_code, last_code, alternative_code, heads, entry_of, form_code}
 use Rattle.method_code.specs.Steps as T
 use Rattle.method_code.specs.Steps.{Acted, acted, put, put_value, decided, called_with, Halted, walk, walked, Stepped, leaves, paid, settled, runs, chosen_head, judged_head, called_early, entered, from_place}
-use Rattle.method_code.specs.Lines.{IsIn, calls_of, calls_step, body_calls, early_calls, pre_calls}
+use Rattle.seuss_program.specs.Lines.{IsIn, calls_of, calls_step, body_calls, early_calls, pre_calls}
 use Rattle.method_code.proofs.Statements.{each, each_each, code-layer, fits-layer}
 use Rattle.method_code.proofs.Simulation.{and_left, and_right}
 

@@ -8,4 +8,5 @@ pub mod Passes
 pub mod Kinds
 pub mod Singles
 pub mod Frames
-pub mod Lines
+pub mod OwnSteps
+pub mod Beside

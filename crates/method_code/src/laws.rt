@@ -22,7 +22,7 @@ ghost use Rattle.method_code.specs.Chains.{chain, begun};
 ghost use Rattle.method_code.specs.Codes.{compiled, number_of};
 ghost use Rattle.method_code.specs.Steps.{step, entry, leaves};
 ghost use Rattle.method_code.specs.Frames.{IsFrame, HasVars, FitsStep};
-ghost use Rattle.method_code.specs.Lines.{EachMade, FindsVars, IsOwnStep};
+ghost use Rattle.method_code.specs.OwnSteps.{EachMade, FindsVars, IsOwnStep};
 ghost use Rattle.method_code.specs.Singles.{IsRun, is_single, is_plainly_rejected};
 ghost use Rattle.method_code.specs.Kinds.{steps_made, pass_end, kinds_of, IsAction, IsInOrder, AllIdle, Made, is_plain, rejects_plainly, calls_early, OnlyReads};
 ghost use Rattle.method_code.specs.Passes.{EndsAs};

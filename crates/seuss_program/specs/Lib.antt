@@ -2,6 +2,7 @@ pub mod Attempts
 pub mod Bodies
 pub mod Initials
 pub mod Keeping
+pub mod Lines
 pub mod Orders
 pub mod Programs
 pub mod Reports

@@ -14,8 +14,6 @@ use Rattle.seuss_program.specs.declared.tree.Proc.{Proc}
 use Rattle.seuss_program.specs.declared.program.Program.{Program}
 use Rattle.seuss_program.specs.declared.program.ActionInfo.{ActionInfo}
 use Rattle.seuss_program.specs.Programs.{procedure_of, target_of, method_of}
-use Rattle.method_code.specs.Frames.{HasVars, IsFrame, FitsStep}
-use Rattle.method_code.specs.Kinds.{Made}
 
 -- an item of a list
 abbrev pub IsIn : {A : Type 0} → A → List A → Type 0
@@ -62,18 +60,3 @@ pub data InTail (p : Program) (a : ActionInfo) : ℕ → ℕ → Type 0 where
       IsIn call (body_calls q.form) → InTail p a (target_of p box call.target) (method_of call.method)
   OfTail : (box number : ℕ) (q : Proc Ref) (call : Call Ref) → InTail p a box number → procedure_of p box number ≡ Some q →
       IsIn call (body_calls q.form) → InTail p a (target_of p box call.target) (method_of call.method)
-
--- a property of each step
-abbrev pub EachMade : (Made → Type 0) → List Made → Type 0
-EachMade P [] = Unit {0}
-EachMade P (s ∷ steps) = P s × EachMade P steps
-
--- A step finds variables of its box.
-abbrev pub FindsVars : Program → Made → Type 0
-FindsVars p s = HasVars p s.box s.vars
-
--- A step of a pass of an action: from a frame of a procedure in the line or the tail of that action.
-pub record IsOwnStep (p : Program) (a : ActionInfo) (s : Made) : Type 0 where
-  pub frame : IsFrame p s.box s.frame
-  pub among : InLine p a s.box frame.number ⊎ InTail p a s.box frame.number
-  pub leaves : FitsStep p s.box frame.number s.stepped
