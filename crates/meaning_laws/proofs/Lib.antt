@@ -1,0 +1,15 @@
+pub mod ActionProcedures
+pub mod CalledProcedures
+pub mod ChosenAlternatives
+pub mod EnoughTurns
+pub mod ExpressionMeanings
+pub mod FittingTexts
+pub mod KeptBodies
+pub mod KeptForms
+pub mod LowerCalls
+pub mod OtherBoxes
+pub mod Results
+pub mod SpentBudgets
+pub mod StartForms
+pub mod StatementMeanings
+pub mod ValueKinds
