@@ -1,0 +1,9 @@
+pub mod Agreeing
+pub mod CodeSets
+pub mod Running
+pub mod Keeping
+pub mod FormSets
+pub mod Depending
+pub mod Masking
+pub mod Bits
+pub mod Telling
