@@ -1,0 +1,11 @@
+pub mod Parts
+pub mod Swapping
+pub mod TextCalls
+pub mod MemberLemmas
+pub mod Rules
+pub mod SingleCalls
+pub mod Safety
+pub mod Adding
+pub mod Walking
+pub mod Ruling
+pub mod Lowering

@@ -1,0 +1,10 @@
+use Rattle.std.proofs.Common.{◌≡◌}
+use Rattle.compat_matrix.specs.Leasts.{HasCells}
+use Rattle.compat_matrix.proofs.levels.fill.Given as goal
+
+-- the rows so far
+abbrev pub invariant-loop-row : goal.invariant-loop-row
+invariant-loop-row l = record {
+  count : l.rows.count ≡ l.initial.rows.count;
+  cells : HasCells l.all l.rows l.row 0;
+}

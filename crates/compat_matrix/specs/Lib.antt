@@ -1,0 +1,5 @@
+pub mod Rule
+pub mod Certified
+pub mod Members
+pub mod Rules
+pub mod Leasts

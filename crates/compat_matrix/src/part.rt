@@ -1,0 +1,6 @@
+/// Where a procedure stands among those of an action: in its line, or in its tail.
+#[derive(Clone, Copy, Debug, PartialEq, Eq)]
+pub enum Part {
+    Line,
+    Tail,
+}
