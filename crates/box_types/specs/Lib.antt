@@ -5,6 +5,7 @@ pub mod BuiltInTexts
 pub mod Faults
 pub mod Limits
 pub mod Namings
+pub mod OwnNames
 pub mod Refusals
 pub mod Registers
 pub mod Scopes

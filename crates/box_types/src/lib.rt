@@ -6,6 +6,7 @@ mod call_places;
 mod checking;
 mod expressions;
 mod faults;
+pub mod laws;
 mod lookups;
 mod names;
 mod naming;
@@ -21,6 +22,3 @@ mod walk_cats;
 
 pub use refusal::CheckRefusal;
 pub use resolving::{Resolved, resolve};
-
-#[cfg(test)]
-mod tests;

@@ -1,4 +1,5 @@
 pub mod CallLemmas
+pub mod CheckedLemmas
 pub mod KeptCalls
 pub mod KeptCats
 pub mod KeptExpressions

@@ -22,13 +22,11 @@ use Rattle.box_types.specs.Namings.{named}
 use Rattle.box_types.specs.Answers.{BeginsWith}
 use Rattle.call_order.specs.Calls.{procedure_in, procedure_of, is_total, is_partial, line_where, lines_of, Inside, in_procedures, in_cats, in_bodies, in_pres, partial_calls, total_calls}
 use Rattle.call_order.specs.Firsts.{first_of}
-use Rattle.call_order.specs.Cycles.{given_of, IsCyclic, IsFirstCyclic, GivesBoxes}
-use Rattle.call_order.specs.Marks.{KnowsGiven}
+use Rattle.call_order.specs.Cycles.{given_of, IsFirstCyclic, HasNoCycle, GivesBoxes}
 use Rattle.call_order.specs.Levels.{IsLevelled}
-use Rattle.call_order.specs.Answers.{row_of, is_cyclic, cyclic_lines, levelled, line_of, Levels, Orders}
+use Rattle.call_order.specs.Answers.{levelled, line_of, Levels, Orders}
 use Rattle.call_order.specs.declared.refusal.OrderRefusal.{OrderRefusal}
 use Rattle.call_order.specs.declared.refusal.OrderRefusal.TheVariants as R
-use Rattle.call_order.proofs.MarkLemmas.{row_known}
 
 -- the first one of mapped items
 find-map : {X Y : Type 0} (f : X → Y) (test : Y → Bool) (xs : List X) → find test (map f xs) ≡ option_map f (find (λ x. test (f x)) xs)
@@ -103,58 +101,24 @@ there-or-first : (boxes : List BoxDecl) (o : Option ℕ) → ((k : ℕ) → o �
 there-or-first boxes None h some = some
 there-or-first boxes (Some k) h some = h k refl
 
--- no lines are found on boxes where none is in a cycle
-no-lines : (boxes : List BoxInfo) (n : ℕ) (bs : List BoxInfo) → ((k : ℕ) → is_cyclic boxes k ≡ false) → cyclic_lines boxes n bs ≡ []
-no-lines boxes n [] none = refl
-no-lines boxes n (b ∷ bs) none =
-    ap (λ (t : Bool). if t then b.name.line ∷ cyclic_lines boxes (n + 1) bs else cyclic_lines boxes (n + 1) bs) (none n) ∙ no-lines boxes (n + 1) bs none
-
--- and else they begin with that of the first one
-first-line : (boxes : List BoxInfo) (n : ℕ) (bs : List BoxInfo) (f line m : ℕ) → m ≡ n + f → ((k : ℕ) → n ≤ k → k < m → is_cyclic boxes k ≡ false) → is_cyclic boxes m ≡ true →
-    line_of bs f ≡ Some line → BeginsWith (cyclic_lines boxes n bs) line
-first-line boxes n [] f line m at none is h = absurd (cc)
-first-line boxes n (b ∷ bs) zero line m at none is h =
-    let e : m ≡ n = omega (arith, at) in (
-      cyclic_lines boxes (n + 1) bs,
-      ap (λ (t : Bool). if t then b.name.line ∷ cyclic_lines boxes (n + 1) bs else cyclic_lines boxes (n + 1) bs) (subst (λ j. is_cyclic boxes j ≡ true) e is)
-          ∙ ap (λ l. l ∷ cyclic_lines boxes (n + 1) bs) (some-same h),
-    )
-  where
-    some-same : {x y : ℕ} → Some x ≡ Some y → x ≡ y
-    some-same e = cc
-first-line boxes n (b ∷ bs) (suc f) line m at none is h =
-    let rest = first-line boxes (n + 1) bs f line m (omega (arith, at)) (λ k low high. none k (omega (arith, low)) high) is h in (
-      rest.0,
-      ap (λ (t : Bool). if t then b.name.line ∷ cyclic_lines boxes (n + 1) bs else cyclic_lines boxes (n + 1) bs) (none n (omega arith) (omega (arith, at)))
-          ∙ rest.1,
-    )
-
--- whether a box is in a cycle
-cyclic-known : (boxes : List BoxInfo) → GivesBoxes boxes → (k : ℕ) → KnowsGiven boxes k (row_of boxes k)
-cyclic-known boxes gives k = row_known boxes gives k (given_of boxes k) (row_of boxes k) refl refl
-
-not-cyclic : (boxes : List BoxInfo) → GivesBoxes boxes → (k : ℕ) → (IsCyclic boxes k → ⊥) → is_cyclic boxes k ≡ false
-not-cyclic boxes gives k none = go (is_cyclic boxes k) refl
-  where
-    go : (t : Bool) → is_cyclic boxes k ≡ t → t ≡ false
-    go true is = absurd (none (((cyclic-known boxes gives k).each k).0 is))
-    go false is = refl
-
 -- the answer on a text by the answer on its program
-pub orders_by : (r : Result Program OrderRefusal) (p : Program) (tree : Tree) → p ≡ named tree → GivesBoxes p.boxes → partial_calls tree ≡ [] → total_calls tree ≡ [] → Levels r p → Orders r tree
-orders_by (Ok q) p tree is gives partials totals h = record {
+pub orders_by : (r : Result Program OrderRefusal) (p : Program) (tree : Tree) → p ≡ named tree → partial_calls tree ≡ [] → total_calls tree ≡ [] → Levels r p →
+    Orders r tree
+orders_by (Ok q) p tree is partials totals h = record {
   partial_calls = partials;
   total_calls = totals;
-  cycles = ap (λ (x : Program). cyclic_lines x.boxes 0 x.boxes) (sym is) ∙ no-lines p.boxes 0 p.boxes (λ k. not-cyclic p.boxes gives k (h.0.none k));
+  cycles = subst (λ (x : Program). HasNoCycle x.boxes) is h.0;
   program = h.1 ∙ ap levelled is;
   levels = subst (λ (x : Program). IsLevelled x q) is h.2;
 }
-orders_by (Err (R.Cycle line first)) p tree is gives partials totals h = subst (λ (x : Program). BeginsWith (cyclic_lines x.boxes 0 x.boxes) line × IsFirstCyclic x.boxes first × (line_of x.boxes first ≡ Some line) → Orders (Err (R.Cycle line first)) tree) (sym is)
-    (λ parts. record { partial_calls = partials; total_calls = totals; cycles = parts.0; first = parts.1; declared = parts.2 })
-    (first-line p.boxes 0 p.boxes first line first (omega arith) (λ k low high. not-cyclic p.boxes gives k (h.0.first k high)) (((cyclic-known p.boxes gives first).each first).1 h.0.cyclic) h.1, h.0, h.1)
-orders_by (Err (R.PartialCall line)) p tree is gives partials totals h = absurd h
-orders_by (Err (R.TotalCall line)) p tree is gives partials totals h = absurd h
-orders_by (Err R.Memory) p tree is gives partials totals h = tt
+orders_by (Err (R.Cycle line first)) p tree is partials totals h = record {
+  partial_calls = partials;
+  total_calls = totals;
+  cycle = subst (λ (x : Program). IsFirstCyclic x.boxes first × (line_of x.boxes first ≡ Some line)) is h;
+}
+orders_by (Err (R.PartialCall line)) p tree is partials totals h = absurd h
+orders_by (Err (R.TotalCall line)) p tree is partials totals h = absurd h
+orders_by (Err R.Memory) p tree is partials totals h = tt
 
 -- the number of a box is that of one of the boxes
 number-there : (boxes : List BoxDecl) (name : Name) → 0 < length boxes → N.box_number boxes name < length boxes

@@ -3,6 +3,7 @@
 
 mod calls;
 mod cycles;
+pub mod laws;
 mod levelling;
 mod levels;
 mod ordering;

@@ -1,4 +1,10 @@
+pub mod ActionNames
+pub mod AgreeingLists
+pub mod LineLemmas
+pub mod OrderLemmas
+pub mod MatrixLemmas
 pub mod RisingLemmas
 pub mod RoundLemmas
 pub mod TightLemmas
+pub mod WordLemmas
 pub mod WritingLemmas

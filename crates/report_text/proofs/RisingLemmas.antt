@@ -10,7 +10,7 @@ pub record IsRisingFrom {X : Type 0} (key : X → ℕ) (k : ℕ) (xs : List X) :
   pub low : All (λ x. k ≤ key x) xs
 
 -- what follows the first item rises from the same key
-rising_tail : {X : Type 0} (key : X → ℕ) (k : ℕ) (x : X) (xs : List X) →
+pub rising_tail : {X : Type 0} (key : X → ℕ) (k : ℕ) (x : X) (xs : List X) →
     IsRisingFrom key k (x ∷ xs) → IsRisingFrom key k xs
 rising_tail key k x xs h = record {
   rising = λ i j d lt le. h.rising (suc i) (suc j) d (omega arith) (omega arith);
@@ -18,7 +18,7 @@ rising_tail key k x xs h = record {
 }
 
 -- no key is below that of the first item
-low_first : {X : Type 0} (key : X → ℕ) (k : ℕ) (x : X) (xs : List X) → IsRisingFrom key k (x ∷ xs) →
+pub low_first : {X : Type 0} (key : X → ℕ) (k : ℕ) (x : X) (xs : List X) → IsRisingFrom key k (x ∷ xs) →
     (j : ℕ) → j ≤ key x → All (λ y. j ≤ key y) (x ∷ xs)
 low_first key k x xs h j small zero d lt = small
 low_first key k x xs h j small (suc i) d lt =
@@ -32,7 +32,7 @@ rising_above key k x xs ne h =
     record { rising = h.rising; low = low_first key k x xs h (k + 1) (omega arith) }
 
 -- no item has a key below all keys
-filter_below : {X : Type 0} (key : X → ℕ) (k : ℕ) (xs : List X) →
+pub filter_below : {X : Type 0} (key : X → ℕ) (k : ℕ) (xs : List X) →
     IsRisingFrom key (k + 1) xs → filter (λ x. key x == k) xs ≡ []
 filter_below key k [] h = refl
 filter_below key k (x ∷ xs) h =

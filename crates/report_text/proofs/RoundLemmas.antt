@@ -16,7 +16,7 @@ flat_map_range_from f a (suc n) b e =
     ∙ sym (append_assoc (f a) (flat_map f (range_with_len (a + 1) n)) (f b))
 
 -- the pieces of one more number from 0 on
-flat_map_range_more : (f : ℕ → List ℕ) (n : ℕ) →
+pub flat_map_range_more : (f : ℕ → List ℕ) (n : ℕ) →
     flat_map f (range_with_len 0 (n + 1)) ≡ flat_map f (range_with_len 0 n) ++ f n
 flat_map_range_more f n =
     let e : n + 1 ≡ suc n = omega arith in rw e (flat_map_range_from f 0 n n (omega arith))

@@ -11,13 +11,13 @@ use Rattle.seuss_program.specs.declared.state.Vars.{Vars}
 use Rattle.seuss_program.specs.Reports.{var_line, var_lines, box_lines, vars_in}
 
 -- a piece goes from what is left to what is written
-piece_written : (text piece left left' after whole : List ℕ) →
+pub piece_written : (text piece left left' after whole : List ℕ) →
     after ≡ text ++ piece → left ≡ piece ++ left' → text ++ left ≡ whole → after ++ left' ≡ whole
 piece_written text piece left left' after whole written split e =
     ap (λ bs. bs ++ left') written ∙ append_assoc text piece left' ∙ ap (λ bs. text ++ bs) (sym split) ∙ e
 
 -- where nothing is left, the text is the whole
-none_left : (text left whole : List ℕ) → left ≡ [] → text ++ left ≡ whole → text ≡ whole
+pub none_left : (text left whole : List ℕ) → left ≡ [] → text ++ left ≡ whole → text ≡ whole
 none_left text left whole none e = sym (append-nil text) ∙ ap (λ bs. text ++ bs) (sym none) ∙ e
 
 -- the item at a place is the first of those from there on

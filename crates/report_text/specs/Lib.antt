@@ -1,3 +1,5 @@
 pub mod CheckTexts
+pub mod Names
+pub mod MatrixTexts
 pub mod Refusals
 pub mod TightReports

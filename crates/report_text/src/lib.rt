@@ -3,6 +3,8 @@
 
 mod checked;
 mod ends;
+pub mod laws;
+mod matrix;
 mod names;
 mod numbers;
 mod outcomes;
@@ -13,10 +15,8 @@ mod values;
 
 pub use checked::check_text;
 pub use ends::end_text;
+pub use matrix::matrix_text;
 pub use names::action_text;
 pub use refusals::{Refused, refusal_text};
 pub use rounds::rounds_text;
 pub use tight::{tight_end, tight_text};
-
-#[cfg(test)]
-mod tests;

@@ -35,7 +35,6 @@ returns-in-Some-first_total_call c = (
 
 pub returns-in-None-first_total_call : goal.returns-in-None-first_total_call
 returns-in-None-first_total_call c = orders_by c.set_levels.result c.args.program c.args.tree.now c.requires.named
-    (subst (λ (p : Program). GivesBoxes p.boxes) (sym c.requires.named) (gives_boxes c.args.tree.now))
     (none_by (partial_calls c.args.tree.now) _ _
     (on_partial c.args.tree.now c.args.program _ c.as_slice.ensures c.requires.named) c.first_partial_call.ensures c.in-None.is)
     (none_by (total_calls c.args.tree.now) _ _
