@@ -1,0 +1,11 @@
+pub mod Nodes
+pub mod StatementLemmas
+pub mod Comparisons
+pub mod Evaluation
+pub mod Statements
+pub mod Foresight
+pub mod OrderLemmas
+pub mod SeenLemmas
+pub mod VerdictLemmas
+pub mod SymbolLists
+pub mod SingleLemmas
