@@ -27,6 +27,3 @@ pub use method::{Entry, Head, Method};
 pub use numbering::number_of;
 pub use passing::attempt_by_steps;
 pub use stepping::step;
-
-#[cfg(test)]
-mod tests;

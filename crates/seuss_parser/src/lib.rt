@@ -27,8 +27,3 @@ pub use programs::parse;
 pub use refusal::ParseRefusal;
 pub use symbol::Symbol;
 pub use word::{Behind, Marked, Numeral, Sort, Word};
-
-#[cfg(test)]
-mod input_tests;
-#[cfg(test)]
-mod tests;

@@ -10,6 +10,3 @@ mod tree;
 
 pub use laws::{fewest_tokens, lines_dont_show, parentheses_are_needed, parsed_is_printable};
 pub use tree::print;
-
-#[cfg(test)]
-mod tests;

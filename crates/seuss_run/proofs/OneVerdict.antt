@@ -1,17 +1,21 @@
 -- Bytes mean one thing for a command.
-use Rattle.std.proofs.Common.{◌≡◌, ℕ, zero, suc, ◌<◌, List, [], ◌∷◌, length, get_or, map, refl, sym, ap, ◌∙◌, subst, arith}
+use Rattle.std.proofs.Common.{◌≡◌, ℕ, zero, suc, ◌<◌, inl, inr, List, [], ◌∷◌, length, get_or, map, refl, sym, ap, ◌∙◌, subst, arith}
 use Rattle.std.specs.Prelude.{Ok, Err, Option, Some, IsNone}
+use Rattle.std.proofs.lemmas.Bool.{cases_order}
 use Rattle.seuss_program.specs.declared.tree.Tree.{Tree}
 use Rattle.seuss_program.specs.declared.program.Program.{Program}
 use Rattle.box_types.specs.Faults.{twice, unknown, wrong_kind, wrong_type, arguments, count}
 use Rattle.call_order.specs.Calls.{partial_calls, total_calls}
-use Rattle.call_order.specs.Answers.{cycles, program_of}
+use Rattle.call_order.specs.Answers.{IsCycleAt, line_of, program_of}
+use Rattle.box_types.specs.Namings.{named}
+use Rattle.call_order.specs.Cycles.{IsFirstCyclic}
+use Rattle.seuss_program.specs.declared.program.BoxInfo.{BoxInfo}
 use Rattle.report_text.specs.declared.refusals.Refused.TheVariants as R
 use Rattle.seuss_run.specs.declared.words.Command.{Command}
 use Rattle.seuss_run.specs.declared.words.Command.TheVariants as C
 use Rattle.seuss_run.specs.Commands.{action_word}
 use Rattle.seuss_run.specs.Stages.{IsOne}
-use Rattle.seuss_run.specs.Verdicts.{Printing, Checking, Attempting, IsVerdict, is_split, is_spelled, is_resolved, is_ordered, has_input, is_certified, semi_lines, is_loaded, is_loaded_parts, has_tree_alone, is_short, are_actions, action_number}
+use Rattle.seuss_run.specs.Verdicts.{Printing, Checking, Comparing, Attempting, IsVerdict, is_split, is_spelled, is_resolved, has_no_cycle, is_ordered, has_input, is_certified, semi_lines, is_loaded, is_loaded_parts, has_tree_alone, is_short, are_actions, action_number}
 use Rattle.seuss_run.proofs.StageLemmas.{one_behind, one_makes, one_passes, one_first_of, one_second_of}
 use Rattle.seuss_run.proofs.VerdictLemmas.{one_read}
 
@@ -22,10 +26,31 @@ one_resolved =
     (one_behind _ _ (one_passes wrong_kind R.WrongKind) (one_behind _ _ (one_passes wrong_type R.WrongType)
     (one_behind _ _ (one_passes arguments R.Arguments) (one_passes count R.Count)))))
 
+-- one box is the first that is given to itself
+one_first : (boxes : List BoxInfo) (b d : ℕ) → IsFirstCyclic boxes b → IsFirstCyclic boxes d → b ≡ d
+one_first boxes b d one other = elim (cases_order b d) [
+  | inl same ↦ same
+  | inr (inl less) ↦ absurd (other.first b less one.cyclic)
+  | inr (inr more) ↦ absurd (one.first d more other.cyclic)
+]
+
+-- a line is the one that the first such box is declared on
+one_line : (tree : Tree) (line line' b d : ℕ) → IsCycleAt tree line b → IsCycleAt tree line' d → line ≡ line'
+one_line tree line line' b d at at' =
+    let same : b ≡ d = one_first _ b d at.0 at'.0 in
+    let told : Some line ≡ Some line' = sym at.1 ∙ (ap (λ box. line_of (named tree).boxes box) same ∙ at'.1) in cc told
+
+one_uncyclic : IsOne has_no_cycle
+one_uncyclic tree (Ok a) (Ok b) (is, none) (is', none') = ap Ok (is ∙ sym is')
+one_uncyclic tree (Ok a) (Err why) (is, none) (line, box, at, told) = absurd (none.none box at.0.cyclic)
+one_uncyclic tree (Err why) (Ok a) (line, box, at, told) (is, none) = absurd (none.none box at.0.cyclic)
+one_uncyclic tree (Err why) (Err cause) (line, box, at, told) (line', box', at', told') =
+    ap Err (told ∙ (ap R.Cycle (one_line tree line line' box box' at at') ∙ sym told'))
+
 one_ordered : IsOne is_ordered
 one_ordered =
     one_behind _ _ (one_passes partial_calls R.PartialCall) (one_behind _ _ (one_passes total_calls R.TotalCall)
-    (one_behind _ _ (one_passes cycles R.Cycle) (one_makes program_of)))
+    (one_behind _ _ one_uncyclic (one_makes program_of)))
 
 one_certified : IsOne is_certified
 one_certified = one_passes (λ (p : Program). semi_lines p.cats) (λ line. R.Unbuilt (Some line))
@@ -88,5 +113,6 @@ module _ (split : IsOne is_split) (spelled : IsOne is_spelled) (numbers : IsOne 
   unfolding IsVerdict
   one_meaning (C.Run rounds workers budget) = one_behind _ _ one_loaded (one_short rounds)
   one_meaning (C.Tight names) = one_behind _ _ one_loaded (one_named names)
+  one_meaning C.Matrix = one_behind _ _ one_loaded (one_makes Comparing)
   one_meaning C.Check = one_behind _ _ one_loaded (one_makes Checking)
   one_meaning C.Print = one_behind _ _ one_tree_alone (one_makes Printing)

@@ -18,7 +18,7 @@ use Rattle.seuss_run.specs.declared.answer.Answer.{Answer}
 use Rattle.seuss_run.specs.Commands.{action_word}
 use Rattle.seuss_run.specs.Runs.{status_of}
 use Rattle.seuss_run.specs.Stages.{Stage}
-use Rattle.seuss_run.specs.Verdicts.{Loaded, Printing, Checking, Running, Attempting, IsVerdict, is_loaded, has_tree_alone, attempts_in, action_number}
+use Rattle.seuss_run.specs.Verdicts.{Loaded, Printing, Checking, Comparing, Running, Attempting, IsVerdict, is_loaded, has_tree_alone, attempts_in, action_number}
 use Rattle.seuss_run.specs.Loadings.{Meets, Performs, NamesActions}
 
 -- where the bytes aren't loaded, or memory is wanting, so it is
@@ -74,6 +74,14 @@ module _ (names : List (List ℕ × List ℕ)) (bytes : List ℕ) where
       subst (λ (h : Halt). Performs (C.Tight names) bytes (Err h)) (sym is) tt
 
 module _ (bytes : List ℕ) where
+  pub matrix_halts : (why : Refused) → is_loaded bytes (Err why) → IsVerdict C.Matrix bytes (Err why)
+  unfolding IsVerdict
+  matrix_halts why refused = inl refused
+
+  pub matrix_goes : (given : Loaded) → is_loaded bytes (Ok given) → IsVerdict C.Matrix bytes (Ok (Comparing given))
+  unfolding IsVerdict
+  matrix_goes given loaded = (given, loaded, refl)
+
   pub check_halts : (why : Refused) → is_loaded bytes (Err why) → IsVerdict C.Check bytes (Err why)
   unfolding IsVerdict
   check_halts why refused = inl refused

@@ -1,8 +1,12 @@
--- Where the first certificate stands.
-use Rattle.std.proofs.Common.{◌≡◌, ℕ, zero, suc, ◌<◌, List, [], ◌∷◌, ◌++◌, map, length, drop, get_or, ap, ◌∙◌, sym, arith}
+-- Where the first certificate stands, and that there is none where none has a line.
+use Rattle.std.proofs.Common.{◌≡◌, ℕ, zero, suc, ◌<◌, List, [], ◌∷◌, ◌++◌, map, length, drop, get_or, refl, ap, ◌∙◌, sym, arith}
+use Rattle.std.specs.Prelude.{All}
+use Rattle.std.specs.List.{AllByRecursion}
+use Rattle.std.proofs.lemmas.List.Elements.{All-from_recursion}
 use Rattle.seuss_program.specs.declared.tree.Ref.{Ref}
 use Rattle.seuss_program.specs.declared.tree.Cat.{Cat}
 use Rattle.seuss_program.specs.declared.tree.Semi.{Semi}
+use Rattle.report_text.specs.MatrixTexts.{certificates}
 use Rattle.seuss_run.specs.Verdicts.{semi_lines}
 
 -- the lines of the certificates of one cat
@@ -24,3 +28,24 @@ line_here (c ∷ cats) zero cat line within is (others, begins) =
     let same : c ≡ cat = sym is in
     (others ++ semi_lines cats, ap (λ (x : Cat Ref). lines_of x.semis ++ semi_lines cats) same ∙ ap (λ ls. ls ++ semi_lines cats) begins)
 line_here (c ∷ cats) (suc at) cat line within is begins = line_here cats at cat line (omega (arith, within)) is begins
+
+-- where no line is, no certificate is
+no_lines : (semis : List (Semi Ref)) (others : List ℕ) → lines_of semis ++ others ≡ [] → (semis ≡ []) × (others ≡ [])
+no_lines [] others e = (refl, e)
+no_lines (s ∷ semis) others e = absurd (cc e)
+
+-- where no certificate has a line, no cat has one
+no_semis_in : (cats : List (Cat Ref)) → semi_lines cats ≡ [] → AllByRecursion (λ (c : Cat Ref). c.semis ≡ []) cats
+no_semis_in [] e = tt
+no_semis_in (c ∷ cats) e = let none = no_lines c.semis (semi_lines cats) e in (none.0, no_semis_in cats none.1)
+
+pub no_semis : (cats : List (Cat Ref)) → semi_lines cats ≡ [] → All (λ (c : Cat Ref). c.semis ≡ []) cats
+no_semis cats e = All-from_recursion (λ (c : Cat Ref). c.semis ≡ []) cats (no_semis_in cats e)
+
+-- and there is none at all
+pub no_certificates : (cats : List (Cat Ref)) → semi_lines cats ≡ [] → certificates cats ≡ []
+no_certificates [] e = refl
+no_certificates (c ∷ cats) e =
+    let none = no_lines c.semis (semi_lines cats) e in
+    ap (λ (semis : List (Semi Ref)). map (λ (s : Semi Ref). (c, s)) semis ++ certificates cats) none.0
+    ∙ no_certificates cats none.1

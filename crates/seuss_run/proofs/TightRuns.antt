@@ -1,9 +1,8 @@
 -- One more attempt at the end of a tight run.
-use Rattle.std.proofs.Common.{◌≡◌, ℕ, List, [], ◌∷◌, ◌++◌, get_or, refl, sym, ap, ◌∙◌}
+use Rattle.std.proofs.Common.{◌≡◌, ℕ, List, [], ◌∷◌, ◌++◌, refl, sym, ap, ◌∙◌}
 use Rattle.std.proofs.lemmas.List.{map-append}
 use Rattle.std.specs.Prelude.{slice_get}
 use Rattle.seuss_base.specs.declared.outcome.Outcome.{Outcome}
-use Rattle.seuss_base.specs.declared.outcome.Outcome.TheVariants as O
 use Rattle.seuss_program.specs.declared.order.Placed.{Placed}
 use Rattle.seuss_program.specs.declared.program.Program.{Program}
 use Rattle.seuss_program.specs.declared.state.State.{State}
@@ -30,17 +29,15 @@ state_push p [] state budget a = refl
 state_push p (b ∷ actions) state budget a = state_push p actions (action_attempt p (slice_get p.actions b) state budget).state budget a
 
 -- an order whose outcomes and state are those of its tight run goes on by one attempt
-pub tight_goes_on : (p : Program) (start : State) (budget : ℕ) (order after : List Placed) (state left : State)
-    (outcomes : List Outcome) (e : Placed) → IsTight p start budget order state →
-    outcomes ≡ (tight p (e.action ∷ []) state budget).outcomes → left ≡ (tight p (e.action ∷ []) state budget).state →
-    e.outcome ≡ get_or outcomes 0 O.Accepted → after ≡ order ++ e ∷ [] → IsTight p start budget after left
-tight_goes_on p start budget order after state left outcomes e so_far made went outcome pushed =
+pub tight_goes_on : (p : Program) (start : State) (budget : ℕ) (order after : List Placed) (state left : State) (e : Placed) →
+    IsTight p start budget order state → e.outcome ≡ (action_attempt p (slice_get p.actions e.action) state budget).outcome →
+    left ≡ (action_attempt p (slice_get p.actions e.action) state budget).state → after ≡ order ++ e ∷ [] →
+    IsTight p start budget after left
+tight_goes_on p start budget order after state left e so_far outcome_is went pushed =
     let actions : actions_of after ≡ actions_of order ++ e.action ∷ [] =
     ap actions_of pushed ∙ map-append (λ (x : Placed). x.action) order (e ∷ []) in
     let here : attempt_after p (actions_of order) start budget e.action ≡ action_attempt p (slice_get p.actions e.action) state budget =
     ap (λ (s : State). action_attempt p (slice_get p.actions e.action) s budget) so_far.boxes in
-    let outcome_is : e.outcome ≡ (action_attempt p (slice_get p.actions e.action) state budget).outcome =
-    outcome ∙ ap (λ (os : List Outcome). get_or os 0 O.Accepted) made in
     record {
       outcomes = rw actions (outcomes_push p (actions_of order) start budget e.action ∙ (
           ap (λ (os : List Outcome). os ++ (attempt_after p (actions_of order) start budget e.action).outcome ∷ []) so_far.outcomes ∙ (

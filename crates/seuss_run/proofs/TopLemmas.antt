@@ -20,6 +20,7 @@ is_long : (command : Command) (bytes : List ℕ) → 2097156 < length bytes → 
 unfolding IsVerdict
 is_long (C.Run rounds workers budget) bytes long = inl (inl (long, refl))
 is_long (C.Tight actions) bytes long = inl (inl (long, refl))
+is_long C.Matrix bytes long = inl (inl (long, refl))
 is_long C.Check bytes long = inl (inl (long, refl))
 is_long C.Print bytes long = inl (inl (long, refl))
 
@@ -33,6 +34,7 @@ long_not_accepted : (command : Command) (bytes : List ℕ) (task : Task) → 209
 unfolding IsVerdict
 long_not_accepted (C.Run rounds workers budget) bytes task long (given, loaded, short) = read_few (is_split >=> is_loaded_parts) bytes given long loaded
 long_not_accepted (C.Tight actions) bytes task long (given, loaded, named) = read_few (is_split >=> is_loaded_parts) bytes given long loaded
+long_not_accepted C.Matrix bytes task long (given, loaded, made) = read_few (is_split >=> is_loaded_parts) bytes given long loaded
 long_not_accepted C.Check bytes task long (given, loaded, made) = read_few (is_split >=> is_loaded_parts) bytes given long loaded
 long_not_accepted C.Print bytes task long (tree, read, made) = read_few (is_split >=> tree_of) bytes tree long read
 
@@ -138,6 +140,7 @@ module _ (one : (c : Command) (bytes : List ℕ) (verdict other : Result Task Re
 still_command : (c : Command) (words : List (List ℕ)) → IsCommand words c → (BeginsRun words → ⊥) → IsStill c
 still_command (C.Run rounds workers budget) words spelled no_run = absurd (no_run (spelled.numbers, spelled.spelled))
 still_command (C.Tight actions) words spelled no_run = tt
+still_command C.Matrix words spelled no_run = tt
 still_command C.Check words spelled no_run = tt
 still_command C.Print words spelled no_run = tt
 

@@ -25,6 +25,15 @@ tight_not_check ws us e = omega (arith, ap first_byte e)
 pub tight_not_print : (ws us : List (List ℕ)) → codes "tight" ∷ ws ≡ codes "print" ∷ us → ⊥
 tight_not_print ws us e = omega (arith, ap first_byte e)
 
+pub tight_not_matrix : (ws us : List (List ℕ)) → codes "tight" ∷ ws ≡ codes "matrix" ∷ us → ⊥
+tight_not_matrix ws us e = omega (arith, ap first_byte e)
+
+pub matrix_not_check : (ws us : List (List ℕ)) → codes "matrix" ∷ ws ≡ codes "check" ∷ us → ⊥
+matrix_not_check ws us e = omega (arith, ap first_byte e)
+
+pub matrix_not_print : (ws us : List (List ℕ)) → codes "matrix" ∷ ws ≡ codes "print" ∷ us → ⊥
+matrix_not_print ws us e = omega (arith, ap first_byte e)
+
 pub check_not_print : (ws us : List (List ℕ)) → codes "check" ∷ ws ≡ codes "print" ∷ us → ⊥
 check_not_print ws us e = omega (arith, ap first_byte e)
 
@@ -83,6 +92,7 @@ run_words words (C.Run r w b) h =
       small_budget = h.small_budget;
     }
 run_words words (C.Tight actions) h = absurd (cc h.spelled)
+run_words words C.Matrix h = absurd (cc h)
 run_words words C.Check h = absurd (cc h)
 run_words words C.Print h = absurd (cc h)
 
@@ -204,6 +214,7 @@ pub tight_words : (words : List (List ℕ)) (c : Command) → IsCommand (codes "
 tight_words words (C.Tight actions) h =
     record { actions = actions; spelled = cc h.spelled; few = h.few; names = h.names }
 tight_words words (C.Run r w b) h = absurd (cc h.spelled)
+tight_words words C.Matrix h = absurd (tight_not_matrix words [] h)
 tight_words words C.Check h = absurd (tight_not_check words [] h)
 tight_words words C.Print h = absurd (tight_not_print words [] h)
 

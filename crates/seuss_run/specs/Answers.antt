@@ -11,9 +11,10 @@ use Rattle.report_text.specs.CheckTexts.{check_text}
 use Rattle.seuss_run.specs.declared.words.Command.{Command}
 use Rattle.seuss_run.specs.declared.words.Command.TheVariants as C
 use Rattle.seuss_run.specs.Commands.{IsCommand}
+use Rattle.seuss_run.specs.Matrices.{IsMatrix}
 use Rattle.seuss_run.specs.Readings.{Takes, TakesAll}
 use Rattle.seuss_run.specs.Runs.{IsReport, status_of}
-use Rattle.seuss_run.specs.Verdicts.{Task, Printing, Checking, Running, Attempting, Loaded, IsVerdict}
+use Rattle.seuss_run.specs.Verdicts.{Task, Printing, Checking, Comparing, Running, Attempting, Loaded, IsVerdict}
 
 -- the budget of an attempt where the words name none
 abbrev pub default_budget : ℕ
@@ -30,6 +31,7 @@ IsTightReport given actions status text =
 abbrev pub Does : Command → Task → ℕ → List ℕ → Type 0
 Does (C.Run rounds workers budget) (Running given) status text = IsReport given.0 given.1 rounds budget status text
 Does (C.Tight names) (Attempting given actions) status text = IsTightReport given actions status text
+Does C.Matrix (Comparing given) status text = (status ≡ 0) × IsMatrix given.0 text
 Does C.Check (Checking given) status text = (status ≡ 0) × (text ≡ check_text given.0)
 Does C.Print (Printing tree) status text = (status ≡ 0) × (text ≡ canonical_text tree)
 Does command task status text = ⊥
@@ -44,6 +46,7 @@ Answers command bytes status text =
 abbrev pub IsStill : Command → Type 0
 IsStill (C.Run rounds workers budget) = ⊥
 IsStill (C.Tight actions) = Unit {0}
+IsStill C.Matrix = Unit {0}
 IsStill C.Check = Unit {0}
 IsStill C.Print = Unit {0}
 

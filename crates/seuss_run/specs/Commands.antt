@@ -40,6 +40,7 @@ pub record IsTight (words : List (List ℕ)) (actions : List (List ℕ × List �
 abbrev pub IsCommand : List (List ℕ) → Command → Type 0
 IsCommand words (C.Run rounds workers budget) = IsRun words rounds workers budget
 IsCommand words (C.Tight actions) = IsTight words actions
+IsCommand words C.Matrix = words ≡ codes "matrix" ∷ []
 IsCommand words C.Check = words ≡ codes "check" ∷ []
 IsCommand words C.Print = words ≡ codes "print" ∷ []
 

@@ -1,6 +1,7 @@
 pub mod Answers
 pub mod Commands
 pub mod Loadings
+pub mod Matrices
 pub mod Readings
 pub mod Runs
 pub mod Splits

@@ -18,7 +18,9 @@ use Rattle.seuss_program.specs.declared.program.Program.{Program}
 use Rattle.seuss_program.specs.Reports.{action_name}
 use Rattle.box_types.specs.Faults.{twice, unknown, wrong_kind, wrong_type, arguments, count}
 use Rattle.call_order.specs.Calls.{partial_calls, total_calls}
-use Rattle.call_order.specs.Answers.{cycles, program_of}
+use Rattle.call_order.specs.Answers.{IsCycleAt, program_of}
+use Rattle.call_order.specs.Cycles.{HasNoCycle}
+use Rattle.box_types.specs.Namings.{named}
 use Rattle.report_text.specs.declared.refusals.Refused.{Refused}
 use Rattle.report_text.specs.declared.refusals.Refused.TheVariants as R
 use Rattle.seuss_run.specs.declared.words.Command.{Command}
@@ -35,6 +37,7 @@ Loaded = Program × List ℤ
 pub data Task : Type 0 where
   Printing : Tree → Task
   Checking : Loaded → Task
+  Comparing : Loaded → Task
   Running : Loaded → Task
   Attempting : Loaded → List ℕ → Task
 
@@ -79,9 +82,13 @@ abbrev pub is_resolved : Stage Tree Tree
 is_resolved = passes twice R.Twice >=> passes unknown R.Unknown >=> passes wrong_kind R.WrongKind >=>
     passes wrong_type R.WrongType >=> passes arguments R.Arguments >=> passes count R.Count
 
+-- no box is given to itself, through any number of boxes; or the first that is stands on the line that is told
+abbrev pub has_no_cycle : Stage Tree Tree
+has_no_cycle tree (Ok same) = (same ≡ tree) × HasNoCycle (named tree).boxes
+has_no_cycle tree (Err why) = (line box : ℕ) × IsCycleAt tree line box × (why ≡ R.Cycle line)
+
 abbrev pub is_ordered : Stage Tree Program
-is_ordered = passes partial_calls R.PartialCall >=> passes total_calls R.TotalCall >=> passes cycles R.Cycle >=>
-    makes program_of
+is_ordered = passes partial_calls R.PartialCall >=> passes total_calls R.TotalCall >=> has_no_cycle >=> makes program_of
 
 -- the numbers of an input, or its first word that is none
 abbrev pub IsInputFault : List ℕ → Refused → Type 0
@@ -139,6 +146,7 @@ are_actions names given (Err why) = (why ≡ R.Action) ×
 -- What a command is asked to do by the bytes, or why they are refused: the first check that fails counts.
 unfoldable pub IsVerdict : Command → List ℕ → Result Task Refused → Type 0
 IsVerdict C.Print = has_tree_alone >=> makes Printing
+IsVerdict C.Matrix = is_loaded >=> makes Comparing
 IsVerdict C.Check = is_loaded >=> makes Checking
 IsVerdict (C.Run rounds workers budget) = is_loaded >=> is_short rounds
 IsVerdict (C.Tight actions) = is_loaded >=> are_actions actions

@@ -1,10 +1,12 @@
-ghost use Rattle.std.specs.Prelude.{◌≡◌, ℕ, ◌*◌, ◌≤◌, ◌<◌, ◌↔◌, List, length, IsTrue, IfOk};
+ghost use Rattle.std.specs.Prelude.{◌≡◌, ℕ, [], ◌*◌, ◌≤◌, ◌<◌, ◌↔◌, List, length, IsTrue, IfOk};
 ghost use Rattle.report_text.specs.Refusals.{refusal};
 ghost use Rattle.seuss_run.specs.Answers.{Answers, IsTightReport};
 ghost use Rattle.seuss_run.specs.Loadings.{Performs};
-ghost use Rattle.seuss_run.specs.Verdicts.{attempts_in};
+ghost use Rattle.seuss_run.specs.Matrices.{IsMatrix};
+ghost use Rattle.seuss_run.specs.Verdicts.{attempts_in, semi_lines};
 ghost use Rattle.seuss_run.specs.Commands.{IsCommand};
 ghost use Rattle.seuss_run.specs.Runs.{IsReport, status_of as status_after};
+ghost use Rattle.seuss_program.specs.Keeping.{Keeps};
 ghost use Rattle.seuss_program.specs.Reports.{last_line as last_line_of};
 
 use crate::actions::action_numbers;
@@ -12,8 +14,10 @@ use crate::halt::Halt;
 use crate::loading::{Job, load, load_tree};
 use crate::run::{MOST_ATTEMPTS, run_rounds};
 use crate::words::Command;
+use compat_matrix::matrix;
+use method_code::compile;
 use report_text::{
-    Refused, check_text, end_text, refusal_text, rounds_text, tight_end, tight_text,
+    Refused, check_text, end_text, matrix_text, refusal_text, rounds_text, tight_end, tight_text,
 };
 use seuss_base::{List as Items, Memory, Outcome, Text};
 use seuss_print::print;
@@ -69,6 +73,8 @@ fn status_of(last: LastLine) -> u8
 
 /// Runs a program with its input, and answers its report.
 fn run(alloc: Global, job: &Job, rounds: u32, budget: u64) -> Result<Answer, Memory>
+    requires keeps { Keeps job.now.program }
+    requires small { budget ≤ 1000000 }
     requires few { length job.now.program.actions ≤ 256 }
     requires rounds { rounds ≤ 10000000 }
     ensures { IfOk result (λ a. IsReport job.now.program job.now.input rounds budget a.status a.text) }
@@ -98,6 +104,22 @@ fn attempt_actions(alloc: Global, job: &Job, actions: &[u32]) -> Result<Answer, 
     })
 }
 
+/// Prints how far each action of a program without certificates is safe beside each other one.
+fn levels(alloc: Global, program: &Program) -> Result<Answer, Memory>
+    requires keeps { Keeps program.now }
+    requires few { length program.now.actions ≤ 256 }
+    requires plain { semi_lines program.now.cats ≡ [] }
+    ensures { IfOk result (λ a. (a.status ≡ 0) × IsMatrix program.now a.text) }
+{
+    let code = compile(alloc, program)?;
+    let rows = matrix(alloc, program, &code)?;
+    let none = Items::new(alloc);
+    Ok(Answer {
+        status: 0,
+        text: matrix_text(alloc, program, &rows, &none)?,
+    })
+}
+
 /// Whether a run of so many rounds has more attempts than the limit.
 fn is_too_long(program: &Program, rounds: u32) -> bool
     requires few { length program.now.actions ≤ 256 }
@@ -116,6 +138,7 @@ fn perform_run(
 ) -> Result<Answer, Halt>
     requires short { length bytes.now ≤ 2097156 }
     requires rounds { rounds ≤ 10000000 }
+    requires small { budget ≤ 1000000 }
     ensures { Performs (Command.Run rounds workers budget) bytes.now result }
 {
     let job = load(alloc, bytes)?;
@@ -133,6 +156,15 @@ fn perform_tight(alloc: Global, names: &Items<(Text, Text)>, bytes: &[u8]) -> Re
     let job = load(alloc, bytes)?;
     let actions = action_numbers(alloc, &job.program, names.as_slice())?;
     Ok(attempt_actions(alloc, &job, actions.as_slice())?)
+}
+
+/// What the command `matrix` does.
+fn perform_matrix(alloc: Global, bytes: &[u8]) -> Result<Answer, Halt>
+    requires short { length bytes.now ≤ 2097156 }
+    ensures { Performs Command.Matrix bytes.now result }
+{
+    let job = load(alloc, bytes)?;
+    Ok(levels(alloc, &job.program)?)
 }
 
 /// What the command `check` does.
@@ -172,6 +204,7 @@ fn perform(alloc: Global, command: &Command, bytes: &[u8]) -> Result<Answer, Hal
             budget,
         } => perform_run(alloc, *rounds, *workers, *budget, bytes),
         Command::Tight { actions } => perform_tight(alloc, actions, bytes),
+        Command::Matrix => perform_matrix(alloc, bytes),
         Command::Check => perform_check(alloc, bytes),
         Command::Print => perform_print(alloc, bytes),
     }

@@ -13,11 +13,8 @@ mod top;
 mod words;
 mod writing;
 
-pub use laws::one_verdict;
+pub use laws::{one_verdict, text_tells_order};
 pub use reading::{MOST_BYTES, ReadRefusal, read_all};
 pub use top::{seuss, seuss_still};
 pub use words::{Command, read_words};
 pub use writing::write_all;
-
-#[cfg(test)]
-mod tests;

@@ -1,8 +1,9 @@
-ghost use Rattle.std.specs.Prelude.{◌≡◌, ◌≤◌, length, map, IfOk};
+ghost use Rattle.std.specs.Prelude.{◌≡◌, [], ◌≤◌, length, map, IfOk};
 ghost use Rattle.seuss_run.specs.Loadings.{Meets, IsFirst};
 ghost use Rattle.seuss_run.specs.Verdicts.{has_tokens, has_tree, is_spelled, is_resolved, is_ordered, has_input, is_certified, is_loaded, is_loaded_parts, has_tree_alone, semi_lines};
 ghost use Rattle.seuss_run.specs.Stages.{◌>=>◌};
 ghost use Rattle.seuss_print.specs.Printable.{IsPrintable};
+ghost use Rattle.seuss_program.specs.Keeping.{Keeps};
 ghost use Rattle.seuss_program.specs.WellFormed.{IsWellFormed};
 ghost use Rattle.seuss_text.specs.Rows.{AreTokens};
 ghost use Rattle.seuss_text.specs.Limits.{AreInLimits};
@@ -84,6 +85,7 @@ fn resolved_tree(alloc: Global, tree: Tree) -> Result<Resolved, Halt>
 /// The program of a tree whose calls and boxes are in order too.
 fn ordered_program(alloc: Global, resolved: Resolved) -> Result<Program, Halt>
     ensures meets { Meets is_ordered resolved (λ program. program) result }
+    ensures keeps { IfOk result Keeps }
     ensures few { IfOk result (λ p. length p.actions ≤ 256) }
 {
     match order(alloc, resolved) {
@@ -98,6 +100,7 @@ fn ordered_program(alloc: Global, resolved: Resolved) -> Result<Program, Halt>
 /// The program that a text spells.
 fn text_program(alloc: Global, text: &[u8]) -> Result<Program, Halt>
     ensures meets { Meets (is_spelled >=> is_resolved >=> is_ordered) text.now (λ program. program) result }
+    ensures keeps { IfOk result Keeps }
     ensures few { IfOk result (λ p. length p.actions ≤ 256) }
 {
     let tree = text_tree(alloc, text)?;
@@ -141,6 +144,7 @@ fn first_semi(program: &Program) -> Option<u32>
 fn certified_program(program: Program) -> Result<Program, Halt>
     ensures meets { Meets is_certified program (λ kept. kept) result }
     ensures same { IfOk result (λ kept. kept ≡ program) }
+    ensures plain { IfOk result (λ kept. semi_lines kept.cats ≡ []) }
 {
     match first_semi(&program) {
         Some(line) => Err(Halt::Refused(Refused::Unbuilt(Some(line)))),
@@ -151,7 +155,9 @@ fn certified_program(program: Program) -> Result<Program, Halt>
 /// A program with its input, out of the two parts of the bytes.
 fn load_parts(alloc: Global, text: &[u8], rest: &[u8]) -> Result<Job, Halt>
     ensures meets { Meets is_loaded_parts (text.now, rest.now) (λ job. (job.program, job.input)) result }
+    ensures keeps { IfOk result (λ job. Keeps job.program) }
     ensures few { IfOk result (λ job. length job.program.actions ≤ 256) }
+    ensures plain { IfOk result (λ job. semi_lines job.program.cats ≡ []) }
 {
     let program = text_program(alloc, text)?;
     let input = text_input(alloc, rest)?;
@@ -163,7 +169,9 @@ fn load_parts(alloc: Global, text: &[u8], rest: &[u8]) -> Result<Job, Halt>
 pub(crate) fn load(alloc: Global, bytes: &[u8]) -> Result<Job, Halt>
     requires { length bytes.now ≤ 2097156 }
     ensures meets { Meets is_loaded bytes.now (λ job. (job.program, job.input)) result }
+    ensures keeps { IfOk result (λ job. Keeps job.program) }
     ensures few { IfOk result (λ job. length job.program.actions ≤ 256) }
+    ensures plain { IfOk result (λ job. semi_lines job.program.cats ≡ []) }
 {
     let (text, rest) = split(bytes);
     load_parts(alloc, text, rest)

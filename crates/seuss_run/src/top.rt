@@ -74,7 +74,7 @@ fn is_known(command: &Command, all: bool) -> bool
 {
     match command {
         Command::Run { .. } => all,
-        Command::Tight { .. } | Command::Check | Command::Print => true,
+        Command::Tight { .. } | Command::Matrix | Command::Check | Command::Print => true,
     }
 }
 
@@ -132,9 +132,9 @@ fn serve<R: Source, W: Sink>(
     }
 }
 
-/// Does what the words after the program's name ask for, where that is `tight`, `check` or `print`: reads
-/// the source, writes the whole text to the sink, and answers the status of the program. It waits for no
-/// other thread, and returns.
+/// Does what the words after the program's name ask for, where that is `tight`, `matrix`, `check` or
+/// `print`: reads the source, writes the whole text to the sink, and answers the status of the program. It
+/// waits for no other thread, and returns.
 ///
 /// 0: the command is done; 1, 2: an attempt trapped, or was spent, before any other one that stopped; 3: the
 /// bytes are refused; 4: the words are none of these commands; 5: a read failed; 6: a write failed; 7: want

@@ -20,6 +20,8 @@ pub enum Command {
     Tight {
         actions: Items<(Text, Text)>,
     },
+    /// Prints how far each action is safe beside each other one.
+    Matrix,
     /// Counts the cats, boxes and actions of an accepted program.
     Check,
     /// Prints the canonical text of a program.
@@ -138,6 +140,7 @@ pub fn read_words(alloc: Global, words: &[String]) -> Result<Option<Command>, Me
     match name.as_str() {
         "run" => Ok(run_command(others)),
         "tight" => tight_command(alloc, others),
+        "matrix" if others.is_empty() => Ok(Some(Command::Matrix)),
         "check" if others.is_empty() => Ok(Some(Command::Check)),
         "print" if others.is_empty() => Ok(Some(Command::Print)),
         _ => Ok(None),

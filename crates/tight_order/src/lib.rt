@@ -41,6 +41,3 @@ pub fn tight(
     }
     Ok(Outcomes { list })
 }
-
-#[cfg(test)]
-mod tests;

@@ -1,0 +1,13 @@
+use Rattle.seuss_run.proofs.ToldOrders.{Laws, same_orders, same_boxes}
+use Rattle.seuss_run.proofs.laws.text_tells_order.Goals as goal
+
+pub returns : goal.returns
+returns c =
+    let laws : Laws = record {
+      printable = c.parsed_is_printable.ensures;
+      own = c.names_are_own.ensures;
+      ordered = c.checked_program_keeps.ensures.ordered;
+      keeps = c.checked_program_keeps.ensures.keeps;
+      one_order = c.one_order.ensures;
+    } in
+    record { order = same_orders laws; boxes = same_boxes laws }
