@@ -9,3 +9,4 @@ pub mod SeenLemmas
 pub mod VerdictLemmas
 pub mod SymbolLists
 pub mod SingleLemmas
+pub mod OneVerdict

@@ -1,12 +1,13 @@
 -- The verdict on a certificate.
-use Rattle.std.specs.Prelude.{◌≡◌, ℕ, Bool, true, false, ◌&&◌, List, ◌++◌, map, length, Option, None, Result, Ok, Err, IsTrue}
+use Rattle.std.specs.Prelude.{◌≡◌, ℕ, Bool, true, false, ◌&&◌, List, Option, None, Result, Ok, Err, IsTrue}
 use Rattle.std.specs.List.{Contains}
 use Rattle.seuss_base.specs.declared.level.Level.{Level}
 use Rattle.seuss_base.specs.declared.level.Level.TheVariants as L
 use Rattle.seuss_program.specs.declared.state.Value.{Value}
 use Rattle.method_code.specs.Singles.{is_single}
 use Rattle.shape_terms.specs.declared.case.Case.{Case}
-use Rattle.shape_terms.specs.Cases.{Pair, first_above, choices_of_vars, choices_of_first, choices_of_second, cases_of}
+use Rattle.shape_terms.specs.Cases.{Pair, first_above, cases_of}
+use Rattle.shape_terms.specs.Counts.{counts_of}
 use Rattle.commute_certs.specs.declared.why.Why.{Why}
 use Rattle.commute_certs.specs.declared.why.Why.TheVariants as W
 use Rattle.commute_certs.specs.declared.why.Reason.{Reason}
@@ -22,8 +23,7 @@ both_single pair = is_single pair.first.form && is_single pair.second.form
 
 -- the first product of numbers of cases that passes 4,096
 abbrev pub too_many : Pair → Option ℕ
-too_many pair = first_above 1
-    (map length (choices_of_vars pair ++ choices_of_first pair ++ choices_of_second pair))
+too_many pair = first_above 1 (counts_of pair)
 
 -- whether everything that is met in a case, in both orders, is told
 abbrev pub is_told : {A : Type 0} → Result A Reason → Bool

@@ -20,3 +20,5 @@ pub mod Fillings
 pub mod Covered
 pub mod Picks
 pub mod Distinct
+pub mod CountLemmas
+pub mod RowCounts

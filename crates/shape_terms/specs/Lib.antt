@@ -6,3 +6,4 @@ pub mod Symbols
 pub mod Texts
 pub mod Cases
 pub mod Covers
+pub mod Counts

@@ -1,6 +1,6 @@
 //! Laws of cases.
 
-ghost use Rattle.std.specs.Prelude.{◌≡◌, ℕ, List, Some};
+ghost use Rattle.std.specs.Prelude.{◌≡◌, ◌≤◌, ◌↔◌, ℕ, List, length, None, Some};
 ghost use Rattle.std.specs.List.{Contains};
 ghost use Rattle.seuss_program.specs.declared.program.Program.{Program};
 ghost use Rattle.seuss_program.specs.declared.state.Value.{Value};
@@ -9,7 +9,8 @@ ghost use Rattle.shape_terms.specs.declared.case.Case.{Case};
 ghost use Rattle.shape_terms.specs.Points.{Point, HasNumbers};
 ghost use Rattle.shape_terms.specs.Symbols.{IsOf, values_at};
 ghost use Rattle.shape_terms.specs.Covers.{AreOf};
-ghost use Rattle.shape_terms.specs.Cases.{Pair, pair_at, cases_of};
+ghost use Rattle.shape_terms.specs.Cases.{Pair, pair_at, cases_of, first_above};
+ghost use Rattle.shape_terms.specs.Counts.{product, counts_of, IsFirstAbove};
 
 /// Every state of a cat, with all arguments of both methods of a certificate, is of exactly one of its cases.
 pub fn each_state_is_of_one_case()
@@ -28,4 +29,13 @@ pub fn points_are_states()
         AreOf (param_kinds pair.first.params) (values_at c.first at) }
     ensures second { (pair : Pair) (c : Case) (at : Point) → Contains (cases_of pair) c → HasNumbers at →
         AreOf (param_kinds pair.second.params) (values_at c.second at) }
+{}
+
+/// A certificate has as many cases as the product of how many each variable and each parameter has. Where these are at
+/// most 4,096, no product of the first counts passes it; else the first one that does is at most the number of cases.
+pub fn too_many_exactly()
+    ensures number { (pair : Pair) → length (cases_of pair) ≡ product (counts_of pair) }
+    ensures none { (pair : Pair) → (first_above 1 (counts_of pair) ≡ None) ↔ (length (cases_of pair) ≤ 4096) }
+    ensures first { (pair : Pair) (count : ℕ) → first_above 1 (counts_of pair) ≡ Some count → IsFirstAbove (counts_of pair) count }
+    ensures at_least { (pair : Pair) (count : ℕ) → first_above 1 (counts_of pair) ≡ Some count → count ≤ length (cases_of pair) }
 {}
