@@ -9,3 +9,10 @@ pub mod Adding
 pub mod Walking
 pub mod Ruling
 pub mod Lowering
+pub mod AloneRuns
+pub mod EndLemmas
+pub mod CertifiedSteps
+pub mod CertificateLemmas
+pub mod NamedMethods
+pub mod WrittenLemmas
+pub mod Refusals

@@ -16,7 +16,7 @@ use Rattle.seuss_program.specs.declared.program.BoxInfo.{BoxInfo}
 use Rattle.seuss_program.specs.declared.state.Value.{Value}
 use Rattle.seuss_program.specs.Programs.{procedure_of, cat_of}
 use Rattle.seuss_program.specs.Keeping as K
-use Rattle.seuss_program.specs.Keeping.{Keeps, KeepsCat, vars_in, var_kinds, is_total, param_kinds}
+use Rattle.seuss_program.specs.Keeping.{Keeps, KeepsCat, vars_in, var_kinds, is_total}
 use Rattle.seuss_program.specs.Lines.{IsIn, InLine, InTail, early_calls, body_calls}
 use Rattle.method_code.specs.declared.method.Method.{Method}
 use Rattle.method_code.specs.declared.frame.Frame.{Frame}
@@ -25,11 +25,12 @@ use Rattle.method_code.specs.declared.frame.End.TheVariants as E
 use Rattle.method_code.specs.Codes.{compiled, method_code, number_of, cat_number, entry_of}
 use Rattle.method_code.specs.Steps.{Stepped, step, step_in, entry, leaves}
 use Rattle.method_code.specs.Frames.{HasVars, IsPlace}
-use Rattle.method_code.specs.Kinds.{Kind, Early, Commit, Late, kind_of, kind_by, is_late, calls_early, begins_total, IsAction}
+use Rattle.method_code.specs.Kinds.{Early, Commit, Late, kind_of, kind_by, is_late, calls_early, begins_total, IsAction}
 use Rattle.method_code.specs.Kinds as KS
 use Rattle.method_code.specs.Singles.{is_single}
 use Rattle.method_code.specs.Beside.{MayHave, Start, from, asks, Swaps, Semicommutes, MayBegin, AtEntry, AtPlace, SafeBeside}
-use Rattle.method_code.proofs.Places.{get_all, stands, coded, scope, keeps_procedure, calls_below}
+use Rattle.compat_matrix.proofs.NamedMethods.{holds_there}
+use Rattle.method_code.proofs.Places.{stands, coded, scope, keeps_procedure, calls_below}
 use Rattle.method_code.proofs.Attempting.{named}
 use Rattle.method_code.proofs.NamedCalls.{EndNamed, named_form, placed_named}
 use Rattle.effect_sets.specs.Effects.{tests, writes, has_early, has_late, is_some_call}
@@ -82,7 +83,7 @@ module _ (p : Program) (keeps : Keeps p)
       ∙ at.cat_there in
       let many : length (map K.kind_of vars) ≡ length (var_kinds at.cat.vars) = ap length has
       ∙ ap (λ o. length (vars_in o)) cat in
-      let few = (get_all (KeepsCat p.cats) p.cats at.info.cat at.cat at.cat_there keeps.cats).few_vars in
+      let few = (holds_there (KeepsCat p.cats) p.cats at.info.cat at.cat at.cat_there keeps.cats).few_vars in
       omega (arith, many, few, length-map vars K.kind_of, length-map at.cat.vars (λ v. v.kind))
 
   module _ (box number : ℕ) (q : Proc Ref) (there : procedure_of p box number ≡ Some q) where

@@ -65,7 +65,8 @@ pub record IsOne (box number : ℕ) (part : Part) (other_box other : ℕ) (other
   pub same_part : part ≡ other_part
 
 -- what instructions of a procedure of a box call
-pub record IsCalled (p : Program) (box : ℕ) (code : List Instruction) (below number : ℕ) (part : Part) : Type 0 where
+pub record IsCalled (p : Program) (box : ℕ) (code : List Instruction) (below number : ℕ)
+    (part : Part) : Type 0 where
   pub call : CallCode
   pub among : IsIn (I.Call call) code
   pub target : target_of p box (R.Given call.target) ≡ below
@@ -73,7 +74,8 @@ pub record IsCalled (p : Program) (box : ℕ) (code : List Instruction) (below n
   pub tail : part ≡ Tail
 
 -- the preprocedures that heads of a procedure of a box call
-pub record IsBegun (p : Program) (box : ℕ) (heads : List Head) (below number : ℕ) (part : Part) : Type 0 where
+pub record IsBegun (p : Program) (box : ℕ) (heads : List Head) (below number : ℕ)
+    (part : Part) : Type 0 where
   pub head : Head
   pub call : CallCode
   pub among : IsIn head heads

@@ -74,7 +74,8 @@ pub record Pair (p : Program) (certified : CertifiedLevels) (a b : ActionInfo) (
       IsRule part other m.form n.form (certified (cat_number (slice_get p.boxes box)) first second) level
 
 -- The level of two actions: the least of their pairs, and firm where they have none.
-pub record IsLevel (p : Program) (certified : CertifiedLevels) (a b : ActionInfo) (level : Level) : Type 0 where
+pub record IsLevel (p : Program) (certified : CertifiedLevels) (a b : ActionInfo) (level : Level) : Type
+    0 where
   pub least : (found : Level) → Pair p certified a b found → IsAtLeast found level
   pub met : (level ≡ Firm) ⊎ Pair p certified a b level
 

@@ -26,7 +26,6 @@ kind_of (R.CertificateNo n) = codes "certificate_no"
 kind_of (R.CertificateUnclear n) = codes "certificate_unclear"
 kind_of R.Attempts = codes "attempts"
 kind_of R.Action = codes "action"
-kind_of (R.Unbuilt n) = codes "unbuilt"
 
 -- the line that a refusal stands at, where it has one
 abbrev pub line_of : Refused → Option ℕ
@@ -49,7 +48,6 @@ line_of (R.CertificateNo n) = Some n
 line_of (R.CertificateUnclear n) = Some n
 line_of R.Attempts = None
 line_of R.Action = None
-line_of (R.Unbuilt n) = n
 
 -- the place behind the word, where there is one
 abbrev pub place_text : Option ℕ → List ℕ

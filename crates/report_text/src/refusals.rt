@@ -39,16 +39,14 @@ pub enum Refused {
     Cycle(u32),
     /// A word of the input that is no number.
     Input(u32),
-    /// A certificate that does not hold.
+    /// A certificate that does not hold: from some state the two orders of its methods differ.
     CertificateNo(u32),
-    /// A certificate that can not be decided.
+    /// A certificate of which the cases of its methods do not tell whether it holds.
     CertificateUnclear(u32),
     /// More attempts than a run may have.
     Attempts,
     /// An action that the program does not have.
     Action,
-    /// A form that is not built, with its line where it has one.
-    Unbuilt(Option<u32>),
 }
 
 impl Refused {
@@ -76,7 +74,6 @@ impl Refused {
             Refused::CertificateUnclear(_) => b"certificate_unclear",
             Refused::Attempts => b"attempts",
             Refused::Action => b"action",
-            Refused::Unbuilt(_) => b"unbuilt",
         }
     }
 
@@ -101,7 +98,6 @@ impl Refused {
             | Refused::Input(n)
             | Refused::CertificateNo(n)
             | Refused::CertificateUnclear(n) => Some(n),
-            Refused::Unbuilt(line) => line,
             Refused::Long | Refused::Attempts | Refused::Action => None,
         }
     }

@@ -1,6 +1,8 @@
 pub mod ActionLemmas
 pub mod Adding
 pub mod AnswerLemmas
+pub mod CertificateFaults
+pub mod CertificateLevels
 pub mod CheckLemmas
 pub mod CheckedPrograms
 pub mod CommandLemmas
@@ -10,7 +12,6 @@ pub mod OneVerdict
 pub mod PerformLemmas
 pub mod ProgramNames
 pub mod ReadLemmas
-pub mod SemiLemmas
 pub mod SpelledNames
 pub mod SplitLemmas
 pub mod StageLemmas

@@ -15,7 +15,7 @@ use Rattle.seuss_run.specs.declared.words.Command.{Command}
 use Rattle.seuss_run.specs.declared.words.Command.TheVariants as C
 use Rattle.seuss_run.specs.Commands.{action_word}
 use Rattle.seuss_run.specs.Stages.{IsOne}
-use Rattle.seuss_run.specs.Verdicts.{Printing, Checking, Comparing, Attempting, IsVerdict, is_split, is_spelled, is_resolved, has_no_cycle, is_ordered, has_input, is_certified, semi_lines, is_loaded, is_loaded_parts, has_tree_alone, is_short, are_actions, action_number}
+use Rattle.seuss_run.specs.Verdicts.{Printing, Checking, Comparing, Attempting, IsVerdict, is_split, is_spelled, is_resolved, has_no_cycle, is_ordered, has_input, is_certified, is_loaded, is_loaded_parts, has_tree_alone, is_short, are_actions, action_number}
 use Rattle.seuss_run.proofs.StageLemmas.{one_behind, one_makes, one_passes, one_first_of, one_second_of}
 use Rattle.seuss_run.proofs.VerdictLemmas.{one_read}
 
@@ -51,9 +51,6 @@ one_ordered : IsOne is_ordered
 one_ordered =
     one_behind _ _ (one_passes partial_calls R.PartialCall) (one_behind _ _ (one_passes total_calls R.TotalCall)
     (one_behind _ _ one_uncyclic (one_makes program_of)))
-
-one_certified : IsOne is_certified
-one_certified = one_passes (λ (p : Program). semi_lines p.cats) (λ line. R.Unbuilt (Some line))
 
 -- a run is short enough or isn't
 one_short : (rounds : ℕ) → IsOne (is_short rounds)
@@ -95,11 +92,12 @@ one_named names given (Err why) (Ok a) (told, (k, x, within, at, none)) (numbers
     absurd (none_unknown given.0 names numbers are k x within at none)
 one_named names given (Err why) (Err cause) (told, some) (told', some') = ap Err (told ∙ sym told')
 
-module _ (split : IsOne is_split) (spelled : IsOne is_spelled) (numbers : IsOne has_input) where
+module _ (split : IsOne is_split) (spelled : IsOne is_spelled) (numbers : IsOne has_input)
+    (certified : IsOne is_certified) where
   one_parts : IsOne is_loaded_parts
   one_parts =
       one_behind _ _ (one_first_of _ (one_behind _ _ spelled (one_behind _ _ one_resolved one_ordered)))
-      (one_behind _ _ (one_second_of _ numbers) (one_first_of _ one_certified))
+      (one_behind _ _ (one_second_of _ numbers) (one_first_of _ certified))
 
   one_loaded : IsOne is_loaded
   one_loaded = one_behind _ _ one_read (one_behind _ _ split one_parts)

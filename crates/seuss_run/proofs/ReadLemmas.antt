@@ -60,7 +60,6 @@ refused_of words (R.CertificateNo n) fault = absurd fault
 refused_of words (R.CertificateUnclear n) fault = absurd fault
 refused_of words R.Attempts fault = absurd fault
 refused_of words R.Action fault = absurd fault
-refused_of words (R.Unbuilt n) fault = absurd fault
 
 module _ (law : (words : List Word) (one other : Result Tree ParseRefusal) → All IsWord words → Parses one words →
     Parses other words → IsAnswered one → IsAnswered other → one ≡ other)
@@ -122,7 +121,6 @@ input_of text (R.CertificateNo n) fault = absurd fault
 input_of text (R.CertificateUnclear n) fault = absurd fault
 input_of text R.Attempts fault = absurd fault
 input_of text R.Action fault = absurd fault
-input_of text (R.Unbuilt n) fault = absurd fault
 
 module _ (law : (text : List ℕ) (a b : Result (List ℤ) InputRefusal) → ReadsInput a text → ReadsInput b text →
     (a ≡ Err I.Memory → ⊥) → (b ≡ Err I.Memory → ⊥) → a ≡ b) where

@@ -52,7 +52,6 @@ fault_of text (R.CertificateNo n) fault = absurd fault
 fault_of text (R.CertificateUnclear n) fault = absurd fault
 fault_of text R.Attempts fault = absurd fault
 fault_of text R.Action fault = absurd fault
-fault_of text (R.Unbuilt n) fault = absurd fault
 
 -- what `seuss_text` says of the faults of a text
 pub record OneFault : Type 0 where

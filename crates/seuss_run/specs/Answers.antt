@@ -29,7 +29,8 @@ IsTightReport given actions status text =
 
 -- what a task writes, and the status that it ends with, for the words of the command
 abbrev pub Does : Command → Task → ℕ → List ℕ → Type 0
-Does (C.Run rounds workers budget) (Running given) status text = IsReport given.0 given.1 rounds budget status text
+Does (C.Run rounds workers budget) (Running given) status text =
+    IsReport given.0 given.1 rounds budget status text
 Does (C.Tight names) (Attempting given actions) status text = IsTightReport given actions status text
 Does C.Matrix (Comparing given) status text = (status ≡ 0) × IsMatrix given.0 text
 Does C.Check (Checking given) status text = (status ≡ 0) × (text ≡ check_text given.0)

@@ -1,5 +1,5 @@
 -- What the calls that follow the checks answer. Want of memory is free.
-use Rattle.std.specs.Prelude.{◌≡◌, ℕ, ◌≤◌, List, [], ◌∷◌, map, Any, IsNone, Option, None, Some, Result, Ok, Err}
+use Rattle.std.specs.Prelude.{◌≡◌, ℕ, ◌≤◌, List, map, Any, IsNone, Some, Result, Ok, Err}
 use Rattle.report_text.specs.declared.refusals.Refused.TheVariants as R
 use Rattle.seuss_program.specs.declared.program.Program.{Program}
 use Rattle.seuss_run.specs.declared.halt.Halt.{Halt}
@@ -17,11 +17,6 @@ Meets stage given view (Ok made) = stage given (Ok (view made))
 Meets stage given view (Err (H.Refused why)) = stage given (Err why)
 Meets stage given view (Err H.Memory) = Unit {0}
 
--- the first of these lines, where there is one
-abbrev pub IsFirst : Option ℕ → List ℕ → Type 0
-IsFirst None lines = lines ≡ []
-IsFirst (Some line) lines = (others : List ℕ) × (lines ≡ line ∷ others)
-
 -- the task that the bytes ask for was done, and this is its status and text; or they are refused
 abbrev pub Performs : Command → List ℕ → Result Answer Halt → Type 0
 Performs command bytes (Ok a) =
@@ -32,5 +27,6 @@ Performs command bytes (Err H.Memory) = Unit {0}
 -- these are the numbers of the named actions, or one of the names is that of no action
 abbrev pub NamesActions : Program → List (List ℕ × List ℕ) → Result (List ℕ) Halt → Type 0
 NamesActions p names (Ok numbers) = map (λ n. action_number p (action_word n)) names ≡ map Some numbers
-NamesActions p names (Err (H.Refused why)) = (why ≡ R.Action) × Any (λ n. IsNone (action_number p (action_word n))) names
+NamesActions p names (Err (H.Refused why)) =
+    (why ≡ R.Action) × Any (λ n. IsNone (action_number p (action_word n))) names
 NamesActions p names (Err H.Memory) = Unit {0}

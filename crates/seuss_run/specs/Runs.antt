@@ -20,9 +20,10 @@ outcomes_of order = map (λ (p : Placed). p.outcome) order
 
 -- Executing the actions of the order one at a time, from the start, each with the whole budget, gives
 -- the same outcomes and leaves exactly this state.
-pub record IsTight (p : Program) (start : State) (budget : ℕ) (order : List Placed) (state : State) : Type 0 where
-  pub outcomes : (tight p (actions_of order) start budget).outcomes ≡ outcomes_of order
-  pub boxes : (tight p (actions_of order) start budget).state ≡ state
+pub record IsTight (p : Program) (start : State) (budget : ℕ) (order : List Placed) (state : State) : Type 0
+  where
+    pub outcomes : (tight p (actions_of order) start budget).outcomes ≡ outcomes_of order
+    pub boxes : (tight p (actions_of order) start budget).state ≡ state
 
 -- the status that a run ends with, by its last line
 abbrev pub status_of : LastLine → ℕ

@@ -21,7 +21,8 @@ makes change given (Err why) = ⊥
 -- what is given is refused at the first of these lines, and kept where there is none
 abbrev pub passes : {A : Type 0} → (A → List ℕ) → (ℕ → Refused) → Stage A A
 passes lines refusal given (Ok kept) = (kept ≡ given) × (lines given ≡ [])
-passes lines refusal given (Err why) = (line : ℕ) × (others : List ℕ) × (lines given ≡ line ∷ others) × (why ≡ refusal line)
+passes lines refusal given (Err why) =
+    (line : ℕ) × (others : List ℕ) × (lines given ≡ line ∷ others) × (why ≡ refusal line)
 
 -- a check of the first of two, or of the second, beside which the other one stays
 abbrev pub first_of : {A B C : Type 0} → Stage A B → Stage (A × C) (B × C)
@@ -34,4 +35,5 @@ second_of stage given (Err why) = stage given.1 (Err why)
 
 -- a check gives one answer at the most
 abbrev pub IsOne : {A B : Type 0} → Stage A B → Type 0
-IsOne {A} {B} stage = (given : A) (one other : Result B Refused) → stage given one → stage given other → one ≡ other
+IsOne {A} {B} stage =
+    (given : A) (one other : Result B Refused) → stage given one → stage given other → one ≡ other

@@ -1,5 +1,5 @@
 -- What the bytes that were read mean for a command: a task, or the first reason to refuse them.
-use Rattle.std.specs.Prelude.{◌≡◌, ℕ, ◌*◌, ◌<◌, ◌≤◌, max, ℤ, List, [], ◌∷◌, ◌++◌, map, length, Option, Some, Result, Ok, Err, Any, IsNone}
+use Rattle.std.specs.Prelude.{◌≡◌, ℕ, ◌*◌, ◌<◌, ◌≤◌, max, ℤ, List, map, length, Option, Some, Result, Ok, Err, Any, IsNone}
 use Rattle.std.specs.List.{position_from}
 use Rattle.std.specs.Str.{bytes_eq}
 use Rattle.seuss_text.specs.Rows.{AreTokens}
@@ -9,9 +9,6 @@ use Rattle.seuss_text.specs.declared.token.Token.{Token}
 use Rattle.seuss_parser.specs.Words.{words_of}
 use Rattle.seuss_parser.specs.Answers.{Parses, IsSyntax, IsNesting}
 use Rattle.seuss_parser.specs.Inputs.{IsInput, IsBadInput}
-use Rattle.seuss_program.specs.declared.tree.Ref.{Ref}
-use Rattle.seuss_program.specs.declared.tree.Cat.{Cat}
-use Rattle.seuss_program.specs.declared.tree.Semi.{Semi}
 use Rattle.seuss_program.specs.declared.tree.Tree.{Tree}
 use Rattle.seuss_program.specs.declared.program.ActionInfo.{ActionInfo}
 use Rattle.seuss_program.specs.declared.program.Program.{Program}
@@ -21,6 +18,11 @@ use Rattle.call_order.specs.Calls.{partial_calls, total_calls}
 use Rattle.call_order.specs.Answers.{IsCycleAt, program_of}
 use Rattle.call_order.specs.Cycles.{HasNoCycle}
 use Rattle.box_types.specs.Namings.{named}
+use Rattle.seuss_program.specs.declared.state.Value.{Value}
+use Rattle.seuss_program.specs.declared.state.Vars.{Vars}
+use Rattle.commute_certs.specs.declared.why.Why.{Why}
+use Rattle.commute_certs.specs.declared.verdict.Verdict.TheVariants as V
+use Rattle.compat_matrix.specs.Certificates.{AllHold, IsRefused}
 use Rattle.report_text.specs.declared.refusals.Refused.{Refused}
 use Rattle.report_text.specs.declared.refusals.Refused.TheVariants as R
 use Rattle.seuss_run.specs.declared.words.Command.{Command}
@@ -82,13 +84,15 @@ abbrev pub is_resolved : Stage Tree Tree
 is_resolved = passes twice R.Twice >=> passes unknown R.Unknown >=> passes wrong_kind R.WrongKind >=>
     passes wrong_type R.WrongType >=> passes arguments R.Arguments >=> passes count R.Count
 
--- no box is given to itself, through any number of boxes; or the first that is stands on the line that is told
+-- no box is given to itself, through any number of boxes; or the first that is stands on the line that is
+-- told
 abbrev pub has_no_cycle : Stage Tree Tree
 has_no_cycle tree (Ok same) = (same ≡ tree) × HasNoCycle (named tree).boxes
 has_no_cycle tree (Err why) = (line box : ℕ) × IsCycleAt tree line box × (why ≡ R.Cycle line)
 
 abbrev pub is_ordered : Stage Tree Program
-is_ordered = passes partial_calls R.PartialCall >=> passes total_calls R.TotalCall >=> has_no_cycle >=> makes program_of
+is_ordered = passes partial_calls R.PartialCall >=> passes total_calls R.TotalCall >=> has_no_cycle >=>
+    makes program_of
 
 -- the numbers of an input, or its first word that is none
 abbrev pub IsInputFault : List ℕ → Refused → Type 0
@@ -100,17 +104,23 @@ abbrev pub has_input : Stage (List ℕ) (List ℤ)
 has_input text (Ok numbers) = (length text ≤ max_text) × IsInput text numbers
 has_input text (Err why) = IsInputFault text why
 
--- the lines of certificates, in the order of the text: none of them is decided yet
-abbrev pub semi_lines : List (Cat Ref) → List ℕ
-semi_lines [] = []
-semi_lines (c ∷ cs) = map (λ (s : Semi Ref). s.line) c.semis ++ semi_lines cs
+-- The first certificate in the order of the text that doesn't hold: from some state it fails, or it isn't
+-- told by its cases whether it holds.
+abbrev pub IsCertificateFault : Program → Refused → Type 0
+IsCertificateFault p (R.CertificateNo line) =
+    (vars : Vars) × (first second : List Value) × IsRefused p line (V.No vars first second)
+IsCertificateFault p (R.CertificateUnclear line) = (why : Why) × IsRefused p line (V.Unclear why)
+IsCertificateFault p why = ⊥
 
+-- all certificates of a program hold, or the first one that doesn't
 abbrev pub is_certified : Stage Program Program
-is_certified = passes (λ (p : Program). semi_lines p.cats) (λ line. R.Unbuilt (Some line))
+is_certified p (Ok same) = (same ≡ p) × AllHold p
+is_certified p (Err why) = IsCertificateFault p why
 
 -- a program with its input: first the program is checked, then the input, then the certificates
 abbrev pub is_loaded_parts : Stage (List ℕ × List ℕ) Loaded
-is_loaded_parts = first_of (is_spelled >=> is_resolved >=> is_ordered) >=> second_of has_input >=> first_of is_certified
+is_loaded_parts = first_of (is_spelled >=> is_resolved >=> is_ordered) >=> second_of has_input >=>
+    first_of is_certified
 
 abbrev pub is_loaded : Stage (List ℕ) Loaded
 is_loaded = is_read >=> is_split >=> is_loaded_parts

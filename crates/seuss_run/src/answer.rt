@@ -1,9 +1,11 @@
-ghost use Rattle.std.specs.Prelude.{◌≡◌, ℕ, [], ◌*◌, ◌≤◌, ◌<◌, ◌↔◌, List, length, IsTrue, IfOk};
+ghost use Rattle.std.specs.Prelude.{◌≡◌, ℕ, ◌*◌, ◌≤◌, ◌<◌, ◌↔◌, List, length, map, IsTrue, IfOk};
 ghost use Rattle.report_text.specs.Refusals.{refusal};
 ghost use Rattle.seuss_run.specs.Answers.{Answers, IsTightReport};
 ghost use Rattle.seuss_run.specs.Loadings.{Performs};
+ghost use Rattle.compat_matrix.specs.Certificates.{AreCertificates};
+ghost use Rattle.compat_matrix.specs.declared.certificate.Certificate.{Certificate as CertificateOf};
 ghost use Rattle.seuss_run.specs.Matrices.{IsMatrix};
-ghost use Rattle.seuss_run.specs.Verdicts.{attempts_in, semi_lines};
+ghost use Rattle.seuss_run.specs.Verdicts.{attempts_in};
 ghost use Rattle.seuss_run.specs.Commands.{IsCommand};
 ghost use Rattle.seuss_run.specs.Runs.{IsReport, status_of as status_after};
 ghost use Rattle.seuss_program.specs.Keeping.{Keeps};
@@ -14,12 +16,12 @@ use crate::halt::Halt;
 use crate::loading::{Job, load, load_tree};
 use crate::run::{MOST_ATTEMPTS, run_rounds};
 use crate::words::Command;
-use compat_matrix::matrix;
+use compat_matrix::{Certificate, matrix_of};
 use method_code::compile;
 use report_text::{
     Refused, check_text, end_text, matrix_text, refusal_text, rounds_text, tight_end, tight_text,
 };
-use seuss_base::{List as Items, Memory, Outcome, Text};
+use seuss_base::{Level, List as Items, Memory, Outcome, Text};
 use seuss_print::print;
 use seuss_program::{LastLine, Placed, Program, initial_state};
 use std::alloc::Global;
@@ -104,19 +106,31 @@ fn attempt_actions(alloc: Global, job: &Job, actions: &[u32]) -> Result<Answer, 
     })
 }
 
-/// Prints how far each action of a program without certificates is safe beside each other one.
-fn levels(alloc: Global, program: &Program) -> Result<Answer, Memory>
-    requires keeps { Keeps program.now }
-    requires few { length program.now.actions ≤ 256 }
-    requires plain { semi_lines program.now.cats ≡ [] }
-    ensures { IfOk result (λ a. (a.status ≡ 0) × IsMatrix program.now a.text) }
+/// The levels of certificates.
+fn certified_levels(alloc: Global, certificates: &[Certificate]) -> Result<Items<Level>, Memory>
+    ensures { IfOk result (λ levels. levels ≡ map (λ (e : CertificateOf). e.level) certificates.now) }
 {
-    let code = compile(alloc, program)?;
-    let rows = matrix(alloc, program, &code)?;
-    let none = Items::new(alloc);
+    let mut levels = Items::new(alloc);
+    for certificate in certificates {
+        levels.push(certificate.level)?;
+    }
+    Ok(levels)
+}
+
+/// Prints at which level each certificate of a program holds, and how far each action is safe beside each other one.
+fn levels(alloc: Global, job: &Job) -> Result<Answer, Memory>
+    requires keeps { Keeps job.now.program }
+    requires few { length job.now.program.actions ≤ 256 }
+    requires certified { AreCertificates job.now.program job.now.certificates }
+    ensures { IfOk result (λ a. (a.status ≡ 0) × IsMatrix job.now.program a.text) }
+{
+    let code = compile(alloc, &job.program)?;
+    let certificates = job.certificates.as_slice();
+    let rows = matrix_of(alloc, &job.program, &code, certificates)?;
+    let levels = certified_levels(alloc, certificates)?;
     Ok(Answer {
         status: 0,
-        text: matrix_text(alloc, program, &rows, &none)?,
+        text: matrix_text(alloc, &job.program, &rows, &levels)?,
     })
 }
 
@@ -164,7 +178,7 @@ fn perform_matrix(alloc: Global, bytes: &[u8]) -> Result<Answer, Halt>
     ensures { Performs Command.Matrix bytes.now result }
 {
     let job = load(alloc, bytes)?;
-    Ok(levels(alloc, &job.program)?)
+    Ok(levels(alloc, &job)?)
 }
 
 /// What the command `check` does.

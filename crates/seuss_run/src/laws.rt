@@ -15,6 +15,7 @@ pub fn one_verdict()
     seuss_text::tokens_have_kinds();
     seuss_parser::one_answer();
     seuss_parser::one_input();
+    compat_matrix::laws::one_refusal();
     crate::split::one_split();
 }
 

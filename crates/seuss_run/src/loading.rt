@@ -1,6 +1,7 @@
-ghost use Rattle.std.specs.Prelude.{◌≡◌, [], ◌≤◌, length, map, IfOk};
-ghost use Rattle.seuss_run.specs.Loadings.{Meets, IsFirst};
-ghost use Rattle.seuss_run.specs.Verdicts.{has_tokens, has_tree, is_spelled, is_resolved, is_ordered, has_input, is_certified, is_loaded, is_loaded_parts, has_tree_alone, semi_lines};
+ghost use Rattle.std.specs.Prelude.{◌≤◌, length, IfOk};
+ghost use Rattle.seuss_run.specs.Loadings.{Meets};
+ghost use Rattle.compat_matrix.specs.Certificates.{AreCertificates};
+ghost use Rattle.seuss_run.specs.Verdicts.{has_tokens, has_tree, is_spelled, is_resolved, is_ordered, has_input, is_certified, is_loaded, is_loaded_parts, has_tree_alone};
 ghost use Rattle.seuss_run.specs.Stages.{◌>=>◌};
 ghost use Rattle.seuss_print.specs.Printable.{IsPrintable};
 ghost use Rattle.seuss_program.specs.Keeping.{Keeps};
@@ -12,19 +13,22 @@ use crate::halt::Halt;
 use crate::split::split;
 use box_types::{CheckRefusal, Resolved, resolve};
 use call_order::{OrderRefusal, order};
+use compat_matrix::laws::one_refusal;
+use compat_matrix::{Certificate, MatrixRefusal, certificates};
 use report_text::Refused;
-use seuss_base::{Ints, Memory};
+use seuss_base::{Ints, List, Memory};
 use seuss_parser::{InputRefusal, ParseRefusal, parse, parse_input};
 use seuss_print::parsed_is_printable;
-use seuss_program::{Cat, Program, Ref, Tree};
+use seuss_program::{Program, Tree};
 use seuss_text::{TextRefusal, Tokens, tokens};
 use std::alloc::Global;
 
-/// A program with its input.
+/// A program with its input, and its certificates, each of which holds.
 #[derive(Debug, Drop)]
 pub(crate) struct Job {
     pub program: Program,
     pub input: Ints,
+    pub certificates: List<Certificate>,
 }
 
 /// The tokens of a text.
@@ -120,35 +124,20 @@ fn text_input(alloc: Global, text: &[u8]) -> Result<Ints, Halt>
     }
 }
 
-/// The line of the first certificate of a cat.
-fn cat_semi(cat: &Cat<Ref>) -> Option<u32>
-    ensures { IsFirst result (map (λ s. s.line) cat.now.semis) }
+/// The certificates of a program, each of which holds.
+fn held_certificates(alloc: Global, program: &Program) -> Result<List<Certificate>, Halt>
+    requires { Keeps program.now }
+    ensures meets { Meets is_certified program.now (λ _. program.now) result }
+    ensures held { IfOk result (AreCertificates program.now) }
 {
-    let semi = cat.semis.as_slice().first()?;
-    Some(semi.line)
-}
-
-/// The line of the first certificate of a program.
-fn first_semi(program: &Program) -> Option<u32>
-    ensures { IsFirst result (semi_lines program.now.cats) }
-{
-    for cat in program.cats.as_slice() {
-        if let Some(line) = cat_semi(cat) {
-            return Some(line);
+    one_refusal();
+    match certificates(alloc, program) {
+        Ok(held) => Ok(held),
+        Err(MatrixRefusal::No { line, .. }) => Err(Halt::Refused(Refused::CertificateNo(line))),
+        Err(MatrixRefusal::Unclear { line, .. }) => {
+            Err(Halt::Refused(Refused::CertificateUnclear(line)))
         }
-    }
-    None
-}
-
-/// A program without certificates, which aren't decided yet.
-fn certified_program(program: Program) -> Result<Program, Halt>
-    ensures meets { Meets is_certified program (λ kept. kept) result }
-    ensures same { IfOk result (λ kept. kept ≡ program) }
-    ensures plain { IfOk result (λ kept. semi_lines kept.cats ≡ []) }
-{
-    match first_semi(&program) {
-        Some(line) => Err(Halt::Refused(Refused::Unbuilt(Some(line)))),
-        None => Ok(program),
+        Err(MatrixRefusal::Memory) => Err(Halt::Memory),
     }
 }
 
@@ -157,12 +146,16 @@ fn load_parts(alloc: Global, text: &[u8], rest: &[u8]) -> Result<Job, Halt>
     ensures meets { Meets is_loaded_parts (text.now, rest.now) (λ job. (job.program, job.input)) result }
     ensures keeps { IfOk result (λ job. Keeps job.program) }
     ensures few { IfOk result (λ job. length job.program.actions ≤ 256) }
-    ensures plain { IfOk result (λ job. semi_lines job.program.cats ≡ []) }
+    ensures certified { IfOk result (λ job. AreCertificates job.program job.certificates) }
 {
     let program = text_program(alloc, text)?;
     let input = text_input(alloc, rest)?;
-    let program = certified_program(program)?;
-    Ok(Job { program, input })
+    let certificates = held_certificates(alloc, &program)?;
+    Ok(Job {
+        program,
+        input,
+        certificates,
+    })
 }
 
 /// A program with its input, out of the bytes that were read.
@@ -171,7 +164,7 @@ pub(crate) fn load(alloc: Global, bytes: &[u8]) -> Result<Job, Halt>
     ensures meets { Meets is_loaded bytes.now (λ job. (job.program, job.input)) result }
     ensures keeps { IfOk result (λ job. Keeps job.program) }
     ensures few { IfOk result (λ job. length job.program.actions ≤ 256) }
-    ensures plain { IfOk result (λ job. semi_lines job.program.cats ≡ []) }
+    ensures certified { IfOk result (λ job. AreCertificates job.program job.certificates) }
 {
     let (text, rest) = split(bytes);
     load_parts(alloc, text, rest)

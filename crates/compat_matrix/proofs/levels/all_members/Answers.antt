@@ -1,6 +1,7 @@
 use Rattle.std.proofs.Common.{List, ◌+◌, take, sym, subst}
 use Rattle.seuss_program.specs.declared.program.ActionInfo.{ActionInfo}
 use Rattle.compat_matrix.specs.declared.member.Member.{Member}
+use Rattle.compat_matrix.specs.Rule.{none_certified}
 use Rattle.compat_matrix.specs.Members.{AreAllMembers}
 use Rattle.compat_matrix.proofs.Lowering.{all_more}
 use Rattle.compat_matrix.proofs.levels.all_members.Goals as goal
@@ -11,5 +12,6 @@ loop-action-preserved c =
     let nobody : ActionInfo = record { box_number = 0; procedure = 0 } in
     subst (λ (all : List (List Member)). AreAllMembers c.args.program.now
     (take (c.loop-action.action-index + 1) items) all) (sym c.in_ok-push.ensures.ok)
-    (all_more c.args.program.now items c.loop-action.all c.loop-action.action-index nobody
+    (all_more c.args.program.now none_certified c.args.program.now items c.loop-action.all
+    c.loop-action.action-index nobody
     c.in_ok-members.field-0 c.loop-action-test.true c.loop-action.invariant c.in_ok-members.ensures)

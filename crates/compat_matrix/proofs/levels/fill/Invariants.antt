@@ -1,4 +1,5 @@
 use Rattle.std.proofs.Common.{◌≡◌}
+use Rattle.compat_matrix.specs.Certificates.{levels_of}
 use Rattle.compat_matrix.specs.Leasts.{HasCells}
 use Rattle.compat_matrix.proofs.levels.fill.Given as goal
 
@@ -6,5 +7,5 @@ use Rattle.compat_matrix.proofs.levels.fill.Given as goal
 abbrev pub invariant-loop-row : goal.invariant-loop-row
 invariant-loop-row l = record {
   count : l.rows.count ≡ l.initial.rows.count;
-  cells : HasCells l.all l.rows l.row 0;
+  cells : HasCells l.program (levels_of l.certificates) l.all l.rows l.row 0;
 }

@@ -1,6 +1,7 @@
 use Rattle.std.proofs.Common.{◌≡◌, ℕ, ◌<◌, List, length, Some, refl, sym, ap, ◌∙◌, subst, arith}
 use Rattle.std.proofs.lemmas.Option.{slice_get_read}
 use Rattle.compat_matrix.specs.declared.member.Member.{Member}
+use Rattle.compat_matrix.specs.Certificates.{levels_of}
 use Rattle.compat_matrix.specs.Leasts.{HasCells}
 use Rattle.compat_matrix.proofs.Lowering.{next_cell, next_row}
 use Rattle.compat_matrix.proofs.levels.fill_row.Goals as goal
@@ -21,10 +22,11 @@ loop-column-preserved c =
     record {
       count = c.set.ensures.count ∙ c.loop-column.invariant.count;
       cells = λ has.
-          next_cell all c.loop-column.rows c.set.new.self c.args.row c.loop-column.column
-          c.as_slice-xs.result.now c.as_slice.result.now c.least.result count c.requires.within within
+          next_cell c.args.program.now (levels_of c.args.certificates.now) all c.loop-column.rows
+          c.set.new.self c.args.row c.loop-column.column
+          c.as_slice-xs.result.now c.as_slice-ys.result.now c.least.result count c.requires.within within
           (row ∙ ap (λ (ms : List Member). Some ms) (sym c.as_slice-xs.ensures)) (column
-          ∙ ap (λ (ms : List Member). Some ms) (sym c.as_slice.ensures))
+          ∙ ap (λ (ms : List Member). Some ms) (sym c.as_slice-ys.ensures))
           c.least.ensures c.set.ensures (c.loop-column.invariant.cells has);
     }
 
@@ -35,6 +37,8 @@ returns-clause-cells c = λ has.
       c.requires.count,
       c.count-column-end.ensures.value,
     ) in
-    next_row c.args.all.now c.loop-column.rows c.args.row
-    (subst (λ (n : ℕ). HasCells c.args.all.now c.loop-column.rows c.args.row n) last
+    next_row c.args.program.now (levels_of c.args.certificates.now) c.args.all.now c.loop-column.rows
+    c.args.row
+    (subst (λ (n : ℕ). HasCells c.args.program.now (levels_of c.args.certificates.now) c.args.all.now
+    c.loop-column.rows c.args.row n) last
     (c.loop-column.invariant.cells has))

@@ -1,4 +1,5 @@
 use Rattle.std.proofs.Common.{◌≡◌}
+use Rattle.compat_matrix.specs.Certificates.{levels_of}
 use Rattle.compat_matrix.specs.Leasts.{HasCells}
 use Rattle.compat_matrix.proofs.levels.fill_row.Given as goal
 
@@ -6,5 +7,6 @@ use Rattle.compat_matrix.proofs.levels.fill_row.Given as goal
 abbrev pub invariant-loop-column : goal.invariant-loop-column
 invariant-loop-column l = record {
   count : l.rows.count ≡ l.initial.rows.count;
-  cells : HasCells l.all l.initial.rows l.row 0 → HasCells l.all l.rows l.row l.column;
+  cells : HasCells l.program (levels_of l.certificates) l.all l.initial.rows l.row 0 →
+      HasCells l.program (levels_of l.certificates) l.all l.rows l.row l.column;
 }

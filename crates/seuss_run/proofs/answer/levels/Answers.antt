@@ -1,12 +1,11 @@
-use Rattle.std.proofs.Common.{length, sym, ap, ◌∙◌}
-use Rattle.seuss_run.proofs.SemiLemmas.{no_semis, no_certificates}
+use Rattle.std.proofs.Common.{map, length, ap, ◌∙◌}
+use Rattle.compat_matrix.specs.declared.certificate.Certificate.{Certificate}
+use Rattle.seuss_run.proofs.CertificateLevels.{as_many_levels}
 use Rattle.seuss_run.proofs.answer.levels.Goals as goal
 
--- no cat has a certificate
-pub matrix-requires-clause-plain : goal.matrix-requires-clause-plain
-matrix-requires-clause-plain c = no_semis c.args.program.now.cats c.requires.plain
-
--- no level is wanted for one
+-- each certificate has its level
 pub matrix_text-requires-clause-certified : goal.matrix_text-requires-clause-certified
 matrix_text-requires-clause-certified c =
-    ap length c.new-none.ensures ∙ ap length (sym (no_certificates c.args.program.now.cats c.requires.plain))
+    ap length c.in_ok-levels.ensures
+    ∙ (ap (λ es. length (map (λ (e : Certificate). e.level) es)) c.as_slice-certificates.ensures
+    ∙ as_many_levels c.args.job.now.program c.args.job.now.certificates c.requires.certified)

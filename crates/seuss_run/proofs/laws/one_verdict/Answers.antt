@@ -4,6 +4,7 @@ use Rattle.seuss_run.specs.Verdicts.{has_tokens, has_tree}
 use Rattle.seuss_run.proofs.StageLemmas.{one_behind_met}
 use Rattle.seuss_run.proofs.VerdictLemmas.{one_split_of, one_has_tokens}
 use Rattle.seuss_run.proofs.ReadLemmas.{one_tree, one_has_input}
+use Rattle.seuss_run.proofs.CertificateFaults.{one_certified}
 use Rattle.seuss_run.proofs.OneVerdict.{one_meaning}
 use Rattle.seuss_run.proofs.laws.one_verdict.Goals as goal
 
@@ -21,3 +22,8 @@ returns c =
     (λ text found met. one_tree c.one_answer.ensures c.tokens_have_kinds.ensures found.0 found.1
     (subst (λ t. AreTokens t found.1) (sym met.0) met.2)))
     (one_has_input c.one_input.ensures)
+    (one_certified (record {
+      none = c.one_refusal.ensures.none;
+      line = c.one_refusal.ensures.line;
+      kind = c.one_refusal.ensures.kind;
+    }))

@@ -1,48 +1,48 @@
-use Rattle.std.proofs.Common.{ℕ, Ok, Err, List, ℤ}
-use Rattle.seuss_program.specs.declared.program.Program.{Program}
-use Rattle.seuss_run.specs.Stages.{◌>=>◌, first_of, second_of}
-use Rattle.seuss_run.specs.Verdicts.{is_spelled, is_resolved, is_ordered, has_input, is_certified, is_loaded_parts}
+use Rattle.std.proofs.Common.{Ok, Err, List, refl}
+use Rattle.compat_matrix.specs.declared.certificate.Certificate.{Certificate}
+use Rattle.seuss_run.specs.Stages.{first_of, second_of}
+use Rattle.seuss_run.specs.Verdicts.{Loaded, has_input, is_certified, is_loaded_parts}
 use Rattle.seuss_run.specs.declared.loading.Job.{Job}
-use Rattle.seuss_run.proofs.StageLemmas.{behind, stopped, met_first, met_second, same_halt}
+use Rattle.seuss_run.proofs.StageLemmas.{stopped, met_first, met_second, same_halt}
+use Rattle.seuss_run.proofs.LoadLemmas.{after_program, after_input}
 use Rattle.seuss_run.proofs.loading.load_parts.Goals as goal
+
+-- a program with its input
+abbrev loaded : Job → Loaded
+loaded job = (job.program, job.input)
 
 -- the input is refused
 pub returns-in_err-input-clause-meets : goal.returns-in_err-input-clause-meets
 returns-in_err-input-clause-meets c =
-    let parts : List ℕ × List ℕ = (c.args.text.now, c.args.rest.now) in
-    let view : Job → Program × List ℤ = λ job. (job.program, job.input) in
+    let program = c.in_ok-program.program in
+    let rest = c.args.rest.now in
     let halt = c.in_err-input.field-0.0 in
-    same_halt is_loaded_parts parts view halt c.from_residual-in_err-input.result c.from_residual-in_err-input.ensures.1
-    (behind (first_of (is_spelled >=> is_resolved >=> is_ordered)) (second_of has_input >=> first_of is_certified) parts
-    (c.in_ok-program.program, c.args.rest.now) view (Err halt)
-    (met_first (is_spelled >=> is_resolved >=> is_ordered) c.args.text.now c.args.rest.now (λ p. p) (Ok c.in_ok-program.program) c.in_ok-program.ensures.meets)
-    (stopped (second_of has_input) (first_of is_certified) (c.in_ok-program.program, c.args.rest.now) (λ ints. (c.in_ok-program.program, ints)) view halt
-    (met_second has_input c.args.rest.now c.in_ok-program.program (λ ints. ints) (Err halt) c.in_err-input.ensures)))
+    same_halt is_loaded_parts (c.args.text.now, rest) loaded halt c.from_residual-in_err-input.result
+    c.from_residual-in_err-input.ensures.1
+    (after_program c.args.text.now rest program loaded (Err halt) c.in_ok-program.ensures.meets
+    (stopped (second_of has_input) (first_of is_certified) (program, rest) (λ numbers. (program, numbers)) loaded halt
+    (met_second has_input rest program (λ numbers. numbers) (Err halt) c.in_err-input.ensures)))
 
 -- the certificates are refused
-pub returns-in_err-program-2-clause-meets : goal.returns-in_err-program-2-clause-meets
-returns-in_err-program-2-clause-meets c =
-    let parts : List ℕ × List ℕ = (c.args.text.now, c.args.rest.now) in
-    let view : Job → Program × List ℤ = λ job. (job.program, job.input) in
-    let halt = c.in_err-program-2.field-0.0 in
-    same_halt is_loaded_parts parts view halt c.from_residual-in_err-program-2.result c.from_residual-in_err-program-2.ensures.1
-    (behind (first_of (is_spelled >=> is_resolved >=> is_ordered)) (second_of has_input >=> first_of is_certified) parts
-    (c.in_ok-program.program, c.args.rest.now) view (Err halt)
-    (met_first (is_spelled >=> is_resolved >=> is_ordered) c.args.text.now c.args.rest.now (λ p. p) (Ok c.in_ok-program.program) c.in_ok-program.ensures.meets)
-    (behind (second_of has_input) (first_of is_certified) (c.in_ok-program.program, c.args.rest.now)
-    (c.in_ok-program.program, c.in_ok-input.input) view (Err halt)
-    (met_second has_input c.args.rest.now c.in_ok-program.program (λ ints. ints) (Ok c.in_ok-input.input) c.in_ok-input.ensures)
-    (met_first is_certified c.in_ok-program.program c.in_ok-input.input (λ p. p) (Err halt) c.in_err-program-2.ensures.meets)))
+pub returns-in_err-certificates-clause-meets : goal.returns-in_err-certificates-clause-meets
+returns-in_err-certificates-clause-meets c =
+    let program = c.in_ok-program.program in
+    let input = c.in_ok-input.input in
+    let halt = c.in_err-certificates.field-0.0 in
+    same_halt is_loaded_parts (c.args.text.now, c.args.rest.now) loaded halt
+    c.from_residual-in_err-certificates.result c.from_residual-in_err-certificates.ensures.1
+    (after_input c.args.text.now c.args.rest.now program loaded (Err halt) c.in_ok-program.ensures.meets
+    input c.in_ok-input.ensures
+    (met_first {M = List Certificate} is_certified program input (λ certificates. program) (Err halt)
+    c.in_err-certificates.ensures.meets))
 
 -- all of it is accepted
 pub returns-clause-meets : goal.returns-clause-meets
 returns-clause-meets c =
-    let parts : List ℕ × List ℕ = (c.args.text.now, c.args.rest.now) in
-    let view : Job → Program × List ℤ = λ job. (job.program, job.input) in
-    behind (first_of (is_spelled >=> is_resolved >=> is_ordered)) (second_of has_input >=> first_of is_certified) parts
-    (c.in_ok-program.program, c.args.rest.now) view (Ok (record { program = c.in_ok-program-2.program; input = c.in_ok-input.input }))
-    (met_first (is_spelled >=> is_resolved >=> is_ordered) c.args.text.now c.args.rest.now (λ p. p) (Ok c.in_ok-program.program) c.in_ok-program.ensures.meets)
-    (behind (second_of has_input) (first_of is_certified) (c.in_ok-program.program, c.args.rest.now)
-    (c.in_ok-program.program, c.in_ok-input.input) view (Ok (record { program = c.in_ok-program-2.program; input = c.in_ok-input.input }))
-    (met_second has_input c.args.rest.now c.in_ok-program.program (λ ints. ints) (Ok c.in_ok-input.input) c.in_ok-input.ensures)
-    (met_first is_certified c.in_ok-program.program c.in_ok-input.input (λ p. p) (Ok c.in_ok-program-2.program) c.in_ok-program-2.ensures.meets))
+    let job : Job = record {
+      program = c.in_ok-program.program;
+      input = c.in_ok-input.input;
+      certificates = c.in_ok-certificates.certificates;
+    } in
+    after_input c.args.text.now c.args.rest.now job.program loaded (Ok job) c.in_ok-program.ensures.meets
+    job.input c.in_ok-input.ensures (c.in_ok-certificates.ensures.meets, refl)
