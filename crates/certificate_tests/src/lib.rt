@@ -1,0 +1,5 @@
+//! Tests of the verdicts on certificates.
+#![tactic(auto)]
+
+#[cfg(test)]
+mod verdicts;

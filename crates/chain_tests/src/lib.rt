@@ -1,0 +1,5 @@
+//! Tests of whole passes of compiled code, beside the interpreter.
+#![tactic(auto)]
+
+#[cfg(test)]
+mod chains;
