@@ -43,121 +43,64 @@ module _ (p : Program) (L : CertifiedLevels) where
     right_above : (found : Level) → IsAtLeast found other → IsAtLeast found level
     right_above found h = let l = lower.other_above in omega (arith, h, l)
 
-    pub least_right : (xs ys zs : List Member) → IsLeast p L xs ys one → IsLeast p L xs zs other →
-        IsLeast p L xs
-        (ys ++ zs) level
-    least_right xs ys zs a b = record {
-      least = λ found m. by found m (in_either m.second ys zs m.beside);
+    -- two members that meet, as members of other lists
+    meets : (xs ys us ws : List Member) (found : Level) (m : Meet p L xs ys found) → IsIn m.first us →
+        IsIn m.second ws → Meet p L us ws found
+    meets xs ys us ws found m among beside = record {
+      first = m.first;
+      second = m.second;
+      among = among;
+      beside = beside;
+      box = m.box;
+      rule = m.rule;
+    }
+
+    -- the lower one of two least levels, where the members that meet are those of either
+    joined : (xs ys us ws zs vs : List Member) → IsLeast p L us ws one → IsLeast p L zs vs other →
+        ((found : Level) → Meet p L xs ys found → Meet p L us ws found ⊎ Meet p L zs vs found) →
+        (Meet p L us ws one → Meet p L xs ys one) → (Meet p L zs vs other → Meet p L xs ys other) →
+        IsLeast p L xs ys level
+    joined xs ys us ws zs vs a b either left right = record {
+      least = λ found m. above found (either found m);
       met = met lower.either a.met b.met;
     }
       where
-        by : (found : Level) → (m : Meet p L xs (ys ++ zs) found) → IsIn m.second ys ⊎ IsIn m.second zs →
-            IsAtLeast found level
-        by found m (inl h) = left_above found (a.least found (record {
-          first = m.first;
-          second =
-              m.second;
-          among = m.among;
-          beside = h;
-          box = m.box;
-          rule = m.rule;
-        }))
-        by found m (inr h) = right_above found (b.least found (record {
-          first = m.first;
-          second =
-              m.second;
-          among = m.among;
-          beside = h;
-          box = m.box;
-          rule = m.rule;
-        }))
+        above : (found : Level) → Meet p L us ws found ⊎ Meet p L zs vs found → IsAtLeast found level
+        above found (inl m) = left_above found (a.least found m)
+        above found (inr m) = right_above found (b.least found m)
 
-        left : (one ≡ Firm) ⊎ Meet p L xs ys one → (one ≡ Firm) ⊎ Meet p L xs (ys ++ zs) one
-        left (inl e) = inl e
-        left (inr m) = inr (record {
-          first = m.first;
-          second = m.second;
-          among = m.among;
-          beside =
-              in_left m.second ys zs m.beside;
-          box = m.box;
-          rule = m.rule;
-        })
+        met : (level ≡ one) ⊎ (level ≡ other) → (one ≡ Firm) ⊎ Meet p L us ws one →
+            (other ≡ Firm) ⊎ Meet p L zs vs other → (level ≡ Firm) ⊎ Meet p L xs ys level
+        met (inl e) (inl firm) r = inl (e ∙ firm)
+        met (inl e) (inr m) r = inr (subst (λ k. Meet p L xs ys k) (sym e) (left m))
+        met (inr e) l (inl firm) = inl (e ∙ firm)
+        met (inr e) l (inr m) = inr (subst (λ k. Meet p L xs ys k) (sym e) (right m))
 
-        right : (other ≡ Firm) ⊎ Meet p L xs zs other → (other ≡ Firm) ⊎ Meet p L xs (ys ++ zs) other
-        right (inl e) = inl e
-        right (inr m) = inr (record {
-          first = m.first;
-          second = m.second;
-          among = m.among;
-          beside =
-              in_right m.second ys zs m.beside;
-          box = m.box;
-          rule = m.rule;
-        })
+    -- of two parts of the members on the right
+    pub least_right : (xs ys zs : List Member) → IsLeast p L xs ys one → IsLeast p L xs zs other →
+        IsLeast p L xs (ys ++ zs) level
+    least_right xs ys zs a b = joined xs (ys ++ zs) xs ys xs zs a b
+        (λ found m. part found m (in_either m.second ys zs m.beside))
+        (λ m. meets xs ys xs (ys ++ zs) one m m.among (in_left m.second ys zs m.beside))
+        (λ m. meets xs zs xs (ys ++ zs) other m m.among (in_right m.second ys zs m.beside))
+      where
+        part : (found : Level) (m : Meet p L xs (ys ++ zs) found) → IsIn m.second ys ⊎ IsIn m.second zs →
+            Meet p L xs ys found ⊎ Meet p L xs zs found
+        part found m (inl h) = inl (meets xs (ys ++ zs) xs ys found m m.among h)
+        part found m (inr h) = inr (meets xs (ys ++ zs) xs zs found m m.among h)
 
-        met : (level ≡ one) ⊎ (level ≡ other) → (one ≡ Firm) ⊎ Meet p L xs ys one →
-            (other ≡ Firm) ⊎ Meet p L xs zs other → (level ≡ Firm) ⊎ Meet p L xs (ys ++ zs) level
-        met (inl e) l r = subst (λ k. (k ≡ Firm) ⊎ Meet p L xs (ys ++ zs) k) (sym e) (left l)
-        met (inr e) l r = subst (λ k. (k ≡ Firm) ⊎ Meet p L xs (ys ++ zs) k) (sym e) (right r)
-
+    -- of two parts of the members on the left
     pub least_left : (xs zs ys : List Member) → IsLeast p L xs ys one → IsLeast p L zs ys other →
         IsLeast p L (xs ++ zs) ys level
-    least_left xs zs ys a b = record {
-      least = λ found m. by found m (in_either m.first xs zs m.among);
-      met =
-          met lower.either a.met b.met;
-    }
+    least_left xs zs ys a b = joined (xs ++ zs) ys xs ys zs ys a b
+        (λ found m. part found m (in_either m.first xs zs m.among))
+        (λ m. meets xs ys (xs ++ zs) ys one m (in_left m.first xs zs m.among) m.beside)
+        (λ m. meets zs ys (xs ++ zs) ys other m (in_right m.first xs zs m.among) m.beside)
       where
-        by : (found : Level) → (m : Meet p L (xs ++ zs) ys found) → IsIn m.first xs ⊎ IsIn m.first zs →
-            IsAtLeast found level
-        by found m (inl h) = left_above found (a.least found (record {
-          first = m.first;
-          second =
-              m.second;
-          among = h;
-          beside = m.beside;
-          box = m.box;
-          rule = m.rule;
-        }))
-        by found m (inr h) = right_above found (b.least found (record {
-          first = m.first;
-          second =
-              m.second;
-          among = h;
-          beside = m.beside;
-          box = m.box;
-          rule = m.rule;
-        }))
-
-        left : (one ≡ Firm) ⊎ Meet p L xs ys one → (one ≡ Firm) ⊎ Meet p L (xs ++ zs) ys one
-        left (inl e) = inl e
-        left (inr m) = inr (record {
-          first = m.first;
-          second = m.second;
-          among =
-              in_left m.first xs zs m.among;
-          beside = m.beside;
-          box = m.box;
-          rule = m.rule;
-        })
-
-        right : (other ≡ Firm) ⊎ Meet p L zs ys other → (other ≡ Firm) ⊎ Meet p L (xs ++ zs) ys other
-        right (inl e) = inl e
-        right (inr m) = inr (record {
-          first = m.first;
-          second = m.second;
-          among =
-              in_right m.first xs zs m.among;
-          beside = m.beside;
-          box = m.box;
-          rule = m.rule;
-        })
-
-        met : (level ≡ one) ⊎ (level ≡ other) → (one ≡ Firm) ⊎ Meet p L xs ys one →
-            (other ≡ Firm) ⊎ Meet p L zs ys other → (level ≡ Firm) ⊎ Meet p L (xs ++ zs) ys level
-        met (inl e) l r = subst (λ k. (k ≡ Firm) ⊎ Meet p L (xs ++ zs) ys k) (sym e) (left l)
-        met (inr e) l r = subst (λ k. (k ≡ Firm) ⊎ Meet p L (xs ++ zs) ys k) (sym e) (right r)
+        part : (found : Level) (m : Meet p L (xs ++ zs) ys found) → IsIn m.first xs ⊎ IsIn m.first zs →
+            Meet p L xs ys found ⊎ Meet p L zs ys found
+        part found m (inl h) = inl (meets (xs ++ zs) ys xs ys found m h m.beside)
+        part found m (inr h) = inr (meets (xs ++ zs) ys zs ys found m h m.beside)
 
     -- the same in a loop
     pub right_step : (xs ys : List Member) (at : ℕ) → at < length ys → IsLeast p L xs (take at ys) one →
