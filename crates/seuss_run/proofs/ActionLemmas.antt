@@ -27,5 +27,6 @@ module _ (p : Program) (word : List ℕ) where
   found_behind (x ∷ xs) zero n within is = ap (λ b. cond b (Some n) (position_from is_printed (n + 1) xs)) is
   found_behind (x ∷ xs) (suc i) n within is =
       let next : suc (i + 1) ≡ suc i + 1 = omega arith in
-      subst (λ k. position_from is_printed n (drop i xs) ≡ position_from is_printed (n + 1) (drop k (x ∷ xs))) next
+      subst (λ k. position_from is_printed n (drop i xs) ≡ position_from is_printed (n + 1)
+      (drop k (x ∷ xs))) next
       (found_behind xs i n (omega (arith, within)) is)

@@ -12,7 +12,8 @@ adds_more (Some w) b c xs ys first second =
     told ∙ ap Some (append_assoc w xs ys)
 
 -- after a front of the bytes and then a piece of the rest, a longer front was added
-pub piece_added : (a b c : Option (List ℕ)) (bytes rest after : List ℕ) (k n : ℕ) → k ≤ length bytes → rest ≡ drop k bytes →
+pub piece_added : (a b c : Option (List ℕ)) (bytes rest after : List ℕ) (k n : ℕ) → k ≤ length bytes →
+    rest ≡ drop k bytes →
     n ≤ length rest → after ≡ drop n rest → Adds a b (take k bytes) → Adds b c (take n rest) →
     (k + n ≤ length bytes) × (after ≡ drop (k + n) bytes) × Adds a c (take (k + n) bytes)
 piece_added a b c bytes rest after k n within left fits left_after front piece =

@@ -17,7 +17,8 @@ done command bytes status text did = inr did
 
 -- the bytes are refused
 pub refused : {E : Type 0} (command : Command) (bytes : List ℕ) (reason : Refused) (r : Result Answer E) →
-    IfOk r (λ a. a.status ≡ 3) → IfOk r (λ a. a.text ≡ refusal reason) → IsVerdict command bytes (Err reason) →
+    IfOk r (λ a. a.status ≡ 3) → IfOk r (λ a. a.text ≡ refusal reason) →
+    IsVerdict command bytes (Err reason) →
     IfOk r (λ a. Answers command bytes a.status a.text)
 unfolding Answers
 refused command bytes reason (Ok a) status text why = inl (status, reason, why, text)

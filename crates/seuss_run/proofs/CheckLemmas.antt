@@ -31,9 +31,11 @@ module _ (tree : Tree) (line : ℕ) where
       is_resolved tree (Err (R.WrongKind line))
   kind_refused a b begins =
       passes_on twice R.Twice from_unknown tree (R.WrongKind line) a
-      (passes_on unknown R.Unknown from_kind tree (R.WrongKind line) b (inl (refuses wrong_kind R.WrongKind tree line begins)))
+      (passes_on unknown R.Unknown from_kind tree (R.WrongKind line) b
+      (inl (refuses wrong_kind R.WrongKind tree line begins)))
 
-  pub type_refused : twice tree ≡ [] → unknown tree ≡ [] → wrong_kind tree ≡ [] → BeginsWith (wrong_type tree) line →
+  pub type_refused : twice tree ≡ [] → unknown tree ≡ [] → wrong_kind tree ≡ [] →
+      BeginsWith (wrong_type tree) line →
       is_resolved tree (Err (R.WrongType line))
   type_refused a b c begins =
       passes_on twice R.Twice from_unknown tree (R.WrongType line) a
@@ -63,7 +65,8 @@ module _ (tree : Tree) (line : ℕ) where
   pub cycle_refused : partial_calls tree ≡ [] → total_calls tree ≡ [] → (box : ℕ) → IsCycleAt tree line box →
       is_ordered tree (Err (R.Cycle line))
   cycle_refused a b box at =
-      passes_on partial_calls R.PartialCall (passes total_calls R.TotalCall >=> has_no_cycle >=> makes program_of)
+      passes_on partial_calls R.PartialCall
+      (passes total_calls R.TotalCall >=> has_no_cycle >=> makes program_of)
       tree (R.Cycle line) a
       (passes_on total_calls R.TotalCall (has_no_cycle >=> makes program_of) tree (R.Cycle line) b
       (inl (line, box, at, refl)))

@@ -12,14 +12,17 @@ use Rattle.seuss_program.specs.Orders.{stops, HasAllBelow, IsLawful}
 
 -- a place in a list that got one more element
 abbrev pub place_push : {X : Type 0} (xs : List X) (y d : X) (k : ℕ) → k < length (xs ++ y ∷ []) →
-    ((k < length xs) × (get_or (xs ++ y ∷ []) k d ≡ get_or xs k d)) ⊎ ((k ≡ length xs) × (get_or (xs ++ y ∷ []) k d ≡ y))
+    ((k < length xs) × (get_or (xs ++ y ∷ []) k d ≡ get_or xs k d))
+    ⊎ ((k ≡ length xs) × (get_or (xs ++ y ∷ []) k d ≡ y))
 place_push xs y d k h = places (cases_lt k (length xs))
   where
     places : (k < length xs) ⊎ (length xs ≤ k) →
-        ((k < length xs) × (get_or (xs ++ y ∷ []) k d ≡ get_or xs k d)) ⊎ ((k ≡ length xs) × (get_or (xs ++ y ∷ []) k d ≡ y))
+        ((k < length xs) × (get_or (xs ++ y ∷ []) k d ≡ get_or xs k d))
+        ⊎ ((k ≡ length xs) × (get_or (xs ++ y ∷ []) k d ≡ y))
     places (inl below) = inl (below, get_or_append_left xs (y ∷ []) d k below)
     places (inr past) =
-        let here : k ≡ length xs = omega (arith, length_push xs y) in inr (here, get_or_push xs y d k (sym here))
+        let here : k ≡ length xs = omega (arith, length_push xs y) in
+        inr (here, get_or_push xs y d k (sym here))
 
 -- the next attempt at the end
 pub in_turn_push : (n : ℕ) (order : List Placed) (e : Placed) → IsInTurn n order → e.attempt ≡ length order →
@@ -37,7 +40,8 @@ rounds_rise n i j some h =
     (le-div_iff_mul-le {k = n} {x = i / n} {y = j} some).1 (omega (arith, div-mul-le_self i n, h))
 
 -- every attempt below the length stands in the order
-pub in_turn_has_all : (n : ℕ) (order : List Placed) (end : ℕ) → IsInTurn n order → end ≤ length order → HasAllBelow end order
+pub in_turn_has_all : (n : ℕ) (order : List Placed) (end : ℕ) → IsInTurn n order → end ≤ length order →
+    HasAllBelow end order
 in_turn_has_all n order end turn within a h =
     let d : Placed = record { attempt = 0; action = 0; outcome = O.Spent } in
     let below : a < length order = omega arith in (
@@ -46,7 +50,8 @@ in_turn_has_all n order end turn within a h =
       get_or-map (λ (p : Placed). p.attempt) order a d a below ∙ (turn a d below).0,
     )
 
-module _ (n rounds : ℕ) (order : List Placed) (turn : IsInTurn n order) (within : length order ≤ rounds * n) where
+module _ (n rounds : ℕ) (order : List Placed) (turn : IsInTurn n order)
+    (within : length order ≤ rounds * n) where
   attempts_within : All (λ (p : Placed). p.attempt < rounds * n) order
   attempts_within k d h = omega (arith, (turn k d h).0)
 
@@ -77,12 +82,15 @@ module _ (n rounds : ℕ) (order : List Placed) (turn : IsInTurn n order) (withi
 
 -- attempts in turn, of which the last one alone stopped the run
 pub stopped_is_lawful : (n rounds : ℕ) (before : List Placed) (e : Placed) → IsInTurn n (before ++ e ∷ []) →
-    length (before ++ e ∷ []) ≤ rounds * n → NoneStops before → stops e.outcome ≡ true → IsLawful n rounds (before ++ e ∷ [])
+    length (before ++ e ∷ []) ≤ rounds * n → NoneStops before → stops e.outcome ≡ true →
+    IsLawful n rounds (before ++ e ∷ [])
 stopped_is_lawful n rounds before e turn within none stop =
     let order : List Placed = before ++ e ∷ [] in
     let long : length order ≡ length before + 1 = length_push before e in
     let some : 0 < n = positive n rounds (omega arith) in
-    let last_attempt : e.attempt ≡ length before = sym (ap (λ (p : Placed). p.attempt) (get_or_push before e e (length before) refl)) ∙ (turn (length before) e (omega arith)).0 in
+    let last_attempt : e.attempt ≡ length before =
+    sym (ap (λ (p : Placed). p.attempt) (get_or_push before e e (length before) refl))
+    ∙ (turn (length before) e (omega arith)).0 in
     record {
       within = attempts_within n rounds order turn within;
       actions = attempts_actions n rounds order turn within;
@@ -98,7 +106,8 @@ stopped_is_lawful n rounds before e turn within none stop =
               (λ (w : (k ≡ length before) × (get_or order k d ≡ e)). rw (w.1, last_attempt) refl)
               (place_push before e d k h);
           last = λ k d h. rw (turn k d h).0 (rounds_rise n k (length before) some (omega arith));
-          earlier = in_turn_has_all n order (length before / n * n) turn (omega (arith, div-mul-le_self (length before) n));
+          earlier = in_turn_has_all n order (length before / n * n) turn
+              (omega (arith, div-mul-le_self (length before) n));
         },
       );
     }
@@ -116,7 +125,8 @@ adds_in_turn n attempt before after stopped turn long a =
 
 pub adds_length : (n attempt : ℕ) (before after : List Placed) (stopped : Bool) → length before ≡ attempt →
     Adds n attempt before after stopped → length after ≡ attempt + 1
-adds_length n attempt before after stopped long a = ap length a.last ∙ (length_push before a.placed ∙ ap (λ m. m + 1) long)
+adds_length n attempt before after stopped long a =
+    ap length a.last ∙ (length_push before a.placed ∙ ap (λ m. m + 1) long)
 
 -- one that doesn't stop the run
 pub adds_none_stops : (n attempt : ℕ) (before after : List Placed) → NoneStops before →
@@ -126,11 +136,13 @@ adds_none_stops n attempt before after none a =
     (All-push (λ (p : Placed). stops p.outcome ≡ false) before a.placed none (sym a.stopped_is))
 
 -- one that stops it
-pub adds_stopped_is_lawful : (n rounds attempt : ℕ) (before after : List Placed) → IsInTurn n before → length before ≡ attempt →
+pub adds_stopped_is_lawful : (n rounds attempt : ℕ) (before after : List Placed) → IsInTurn n before →
+    length before ≡ attempt →
     NoneStops before → attempt < rounds * n → Adds n attempt before after true → IsLawful n rounds after
 adds_stopped_is_lawful n rounds attempt before after turn long none within a =
     let turn_after = adds_in_turn n attempt before after true turn long a in
     let length_after = adds_length n attempt before after true long a in
     let pushed : IsInTurn n (before ++ a.placed ∷ []) = subst (IsInTurn n) a.last turn_after in
     subst (IsLawful n rounds) (sym a.last)
-    (stopped_is_lawful n rounds before a.placed pushed (omega (arith, length_push before a.placed)) none (sym a.stopped_is))
+    (stopped_is_lawful n rounds before a.placed pushed (omega (arith, length_push before a.placed)) none
+    (sym a.stopped_is))

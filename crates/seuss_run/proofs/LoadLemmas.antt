@@ -24,11 +24,13 @@ module _ {M : Type 0} (text rest : List ℕ) (p : Program) (view : M → Loaded)
   pub after_program : Meets (second_of has_input >=> first_of is_certified) (p, rest) view made →
       Meets is_loaded_parts (text, rest) view made
   after_program =
-      behind (first_of (is_spelled >=> is_resolved >=> is_ordered)) (second_of has_input >=> first_of is_certified)
+      behind (first_of (is_spelled >=> is_resolved >=> is_ordered))
+      (second_of has_input >=> first_of is_certified)
       (text, rest) (p, rest) view made (program, refl)
 
   -- where the input passes too, that of the certificates tells
   pub after_input : (numbers : List ℤ) → has_input rest (Ok numbers) →
       Meets (first_of is_certified) (p, numbers) view made → Meets is_loaded_parts (text, rest) view made
   after_input numbers input met =
-      after_program (behind (second_of has_input) (first_of is_certified) (p, rest) (p, numbers) view made (refl, input) met)
+      after_program (behind (second_of has_input) (first_of is_certified) (p, rest) (p, numbers) view made
+      (refl, input) met)

@@ -38,7 +38,8 @@ one_first boxes b d one other = elim (cases_order b d) [
 one_line : (tree : Tree) (line line' b d : ℕ) → IsCycleAt tree line b → IsCycleAt tree line' d → line ≡ line'
 one_line tree line line' b d at at' =
     let same : b ≡ d = one_first _ b d at.0 at'.0 in
-    let told : Some line ≡ Some line' = sym at.1 ∙ (ap (λ box. line_of (named tree).boxes box) same ∙ at'.1) in cc told
+    let told : Some line ≡ Some line' = sym at.1
+    ∙ (ap (λ box. line_of (named tree).boxes box) same ∙ at'.1) in cc told
 
 one_uncyclic : IsOne has_no_cycle
 one_uncyclic tree (Ok a) (Ok b) (is, none) (is', none') = ap Ok (is ∙ sym is')
@@ -49,7 +50,8 @@ one_uncyclic tree (Err why) (Err cause) (line, box, at, told) (line', box', at',
 
 one_ordered : IsOne is_ordered
 one_ordered =
-    one_behind _ _ (one_passes partial_calls R.PartialCall) (one_behind _ _ (one_passes total_calls R.TotalCall)
+    one_behind _ _ (one_passes partial_calls R.PartialCall)
+    (one_behind _ _ (one_passes total_calls R.TotalCall)
     (one_behind _ _ one_uncyclic (one_makes program_of)))
 
 -- a run is short enough or isn't
@@ -65,12 +67,14 @@ same_numbers [] [] e = refl
 same_numbers [] (y ∷ ys) e = absurd (cc e)
 same_numbers (x ∷ xs) [] e = absurd (cc e)
 same_numbers (x ∷ xs) (y ∷ ys) e =
-    let head : x ≡ y = cc e in let tail : map {B = Option ℕ} Some xs ≡ map Some ys = cc e in cc (head, same_numbers xs ys tail)
+    let head : x ≡ y = cc e in let tail : map {B = Option ℕ} Some xs ≡ map Some ys = cc e in
+    cc (head, same_numbers xs ys tail)
 
 -- each of these names has a number, or one of them has none
 none_unknown : (p : Program) (names : List (List ℕ × List ℕ)) (numbers : List ℕ) →
     map (λ n. action_number p (action_word n)) names ≡ map Some numbers →
-    (k : ℕ) (x : List ℕ × List ℕ) → k < length names → get_or names k x ≡ x → IsNone (action_number p (action_word x)) → ⊥
+    (k : ℕ) (x : List ℕ × List ℕ) → k < length names → get_or names k x ≡ x →
+    IsNone (action_number p (action_word x)) → ⊥
 none_unknown p [] numbers are k x within at none = omega (arith, within)
 none_unknown p (n ∷ names) [] are k x within at none = cc are
 none_unknown p (n ∷ names) (m ∷ numbers) are zero x within at none =
@@ -104,7 +108,8 @@ module _ (split : IsOne is_split) (spelled : IsOne is_spelled) (numbers : IsOne 
 
   one_tree_alone : IsOne has_tree_alone
   one_tree_alone =
-      one_behind _ _ one_read (one_behind _ _ split (one_behind _ _ (one_first_of _ spelled) (one_makes (λ (read : Tree × List ℕ). read.0))))
+      one_behind _ _ one_read (one_behind _ _ split
+      (one_behind _ _ (one_first_of _ spelled) (one_makes (λ (read : Tree × List ℕ). read.0))))
 
   -- bytes mean one thing for a command
   pub one_meaning : (c : Command) → IsOne (IsVerdict c)

@@ -24,7 +24,8 @@ use Rattle.seuss_run.specs.Loadings.{Meets, Performs, NamesActions}
 -- where the bytes aren't loaded, or memory is wanting, so it is
 pub halted : {B M : Type 0} (command : Command) (bytes : List ℕ) (stage : Stage (List ℕ) B) (view : M → B) →
     ((why : Refused) → stage bytes (Err why) → IsVerdict command bytes (Err why)) →
-    (halt : Halt) (made : Result Answer Halt) → IsErrAnd made (λ cause. cause ≡ halt) → Meets stage bytes view (Err halt) →
+    (halt : Halt) (made : Result Answer Halt) → IsErrAnd made (λ cause. cause ≡ halt) →
+    Meets stage bytes view (Err halt) →
     Performs command bytes made
 halted command bytes stage view refuses halt (Ok a) is met = absurd is
 halted command bytes stage view refuses (H.Refused why) (Err cause) is met =
@@ -33,7 +34,8 @@ halted command bytes stage view refuses H.Memory (Err cause) is met =
     subst (λ (h : Halt). Performs command bytes (Err h)) (sym is) tt
 
 module _ (rounds workers budget : ℕ) (bytes : List ℕ) where
-  pub run_halts : (why : Refused) → is_loaded bytes (Err why) → IsVerdict (C.Run rounds workers budget) bytes (Err why)
+  pub run_halts : (why : Refused) → is_loaded bytes (Err why) →
+      IsVerdict (C.Run rounds workers budget) bytes (Err why)
   unfolding IsVerdict
   run_halts why refused = inl refused
 
@@ -66,10 +68,12 @@ module _ (names : List (List ℕ × List ℕ)) (bytes : List ℕ) where
 
   -- where a name is that of no action, or memory is wanting, so it is
   pub unnamed : (given : Loaded) → is_loaded bytes (Ok given) → (halt : Halt) (made : Result Answer Halt) →
-      IsErrAnd made (λ cause. cause ≡ halt) → NamesActions given.0 names (Err halt) → Performs (C.Tight names) bytes made
+      IsErrAnd made (λ cause. cause ≡ halt) → NamesActions given.0 names (Err halt) →
+      Performs (C.Tight names) bytes made
   unnamed given loaded halt (Ok a) is named = absurd is
   unnamed given loaded (H.Refused why) (Err cause) is named =
-      subst (λ (h : Halt). Performs (C.Tight names) bytes (Err h)) (sym is) (tight_unknown given loaded why named)
+      subst (λ (h : Halt). Performs (C.Tight names) bytes (Err h)) (sym is)
+      (tight_unknown given loaded why named)
   unnamed given loaded H.Memory (Err cause) is named =
       subst (λ (h : Halt). Performs (C.Tight names) bytes (Err h)) (sym is) tt
 
@@ -78,7 +82,8 @@ module _ (bytes : List ℕ) where
   unfolding IsVerdict
   matrix_halts why refused = inl refused
 
-  pub matrix_goes : (given : Loaded) → is_loaded bytes (Ok given) → IsVerdict C.Matrix bytes (Ok (Comparing given))
+  pub matrix_goes : (given : Loaded) → is_loaded bytes (Ok given) →
+      IsVerdict C.Matrix bytes (Ok (Comparing given))
   unfolding IsVerdict
   matrix_goes given loaded = (given, loaded, refl)
 
@@ -86,7 +91,8 @@ module _ (bytes : List ℕ) where
   unfolding IsVerdict
   check_halts why refused = inl refused
 
-  pub check_goes : (given : Loaded) → is_loaded bytes (Ok given) → IsVerdict C.Check bytes (Ok (Checking given))
+  pub check_goes : (given : Loaded) → is_loaded bytes (Ok given) →
+      IsVerdict C.Check bytes (Ok (Checking given))
   unfolding IsVerdict
   check_goes given loaded = (given, loaded, refl)
 
@@ -94,7 +100,8 @@ module _ (bytes : List ℕ) where
   unfolding IsVerdict
   print_halts why refused = inl refused
 
-  pub print_goes : (tree : Tree) → has_tree_alone bytes (Ok tree) → IsVerdict C.Print bytes (Ok (Printing tree))
+  pub print_goes : (tree : Tree) → has_tree_alone bytes (Ok tree) →
+      IsVerdict C.Print bytes (Ok (Printing tree))
   unfolding IsVerdict
   print_goes tree read = (tree, read, refl)
 

@@ -24,7 +24,8 @@ use Rattle.seuss_run.specs.Verdicts.{has_tree, IsTreeFault, has_input, IsInputFa
 
 -- the words of a text's tokens are words
 words_are : (text : List ℕ) (tokens : List Token) →
-    AllByRecursion (λ (t : Token). kind_of (token_text text t) ≡ Some t.kind) tokens → AllByRecursion IsWord (words_of text tokens)
+    AllByRecursion (λ (t : Token). kind_of (token_text text t) ≡ Some t.kind) tokens →
+    AllByRecursion IsWord (words_of text tokens)
 words_are text [] kinds = tt
 words_are text (token ∷ tokens) (kind, kinds) = (
   record {
@@ -37,8 +38,10 @@ words_are text (token ∷ tokens) (kind, kinds) = (
 
 -- where words are refused
 pub data IsRefusedTree (words : List ℕ × List Token) (why : Refused) : Type 0 where
-  syntax : (line : ℕ) → Parses (Err (P.Syntax line)) (words_of words.0 words.1) → why ≡ R.Syntax line → IsRefusedTree words why
-  nesting : (line : ℕ) → Parses (Err (P.Nesting line)) (words_of words.0 words.1) → why ≡ R.Nesting line → IsRefusedTree words why
+  syntax : (line : ℕ) → Parses (Err (P.Syntax line)) (words_of words.0 words.1) → why ≡ R.Syntax line →
+      IsRefusedTree words why
+  nesting : (line : ℕ) → Parses (Err (P.Nesting line)) (words_of words.0 words.1) → why ≡ R.Nesting line →
+      IsRefusedTree words why
 
 refused_of : (words : List ℕ × List Token) (why : Refused) → IsTreeFault words why → IsRefusedTree words why
 refused_of words R.Long fault = absurd fault
@@ -61,40 +64,53 @@ refused_of words (R.CertificateUnclear n) fault = absurd fault
 refused_of words R.Attempts fault = absurd fault
 refused_of words R.Action fault = absurd fault
 
-module _ (law : (words : List Word) (one other : Result Tree ParseRefusal) → All IsWord words → Parses one words →
+module _ (law : (words : List Word) (one other : Result Tree ParseRefusal) → All IsWord words →
+    Parses one words →
     Parses other words → IsAnswered one → IsAnswered other → one ≡ other)
     (kinds : (text : List ℕ) (tokens : List Token) → AreTokens text tokens →
     All (λ (t : Token). kind_of (token_text text t) ≡ Some t.kind) tokens) where
   -- tokens of a text spell one tree, or are refused at one place
   pub one_tree : (text : List ℕ) (tokens : List Token) → AreTokens text tokens →
-      (one other : Result Tree Refused) → has_tree (text, tokens) one → has_tree (text, tokens) other → one ≡ other
+      (one other : Result Tree Refused) → has_tree (text, tokens) one → has_tree (text, tokens) other →
+      one ≡ other
   one_tree text tokens are one other is again =
       by_cases one other is again
-      (All-from_recursion IsWord (words_of text tokens) (words_are text tokens (recursion_from_All _ tokens (kinds text tokens are))))
+      (All-from_recursion IsWord (words_of text tokens)
+      (words_are text tokens (recursion_from_All _ tokens (kinds text tokens are))))
     where
       words : List Word
       words = words_of text tokens
 
-      refusals : (why cause : Refused) → IsRefusedTree (text, tokens) why → IsRefusedTree (text, tokens) cause → All IsWord words → why ≡ cause
+      refusals : (why cause : Refused) → IsRefusedTree (text, tokens) why →
+          IsRefusedTree (text, tokens) cause → All IsWord words → why ≡ cause
       refusals why cause (syntax m is e) (syntax n again f) real =
-          let same : m ≡ n = cc (law words (Err (P.Syntax m)) (Err (P.Syntax n)) real is again tt tt) in e ∙ ap R.Syntax same ∙ sym f
+          let same : m ≡ n = cc (law words (Err (P.Syntax m)) (Err (P.Syntax n)) real is again tt tt) in
+          e ∙ ap R.Syntax same ∙ sym f
       refusals why cause (syntax m is e) (nesting n again f) real =
           absurd (cc (law words (Err (P.Syntax m)) (Err (P.Nesting n)) real is again tt tt))
       refusals why cause (nesting m is e) (syntax n again f) real =
           absurd (cc (law words (Err (P.Nesting m)) (Err (P.Syntax n)) real is again tt tt))
       refusals why cause (nesting m is e) (nesting n again f) real =
-          let same : m ≡ n = cc (law words (Err (P.Nesting m)) (Err (P.Nesting n)) real is again tt tt) in e ∙ ap R.Nesting same ∙ sym f
+          let same : m ≡ n = cc (law words (Err (P.Nesting m)) (Err (P.Nesting n)) real is again tt tt) in
+          e ∙ ap R.Nesting same ∙ sym f
 
-      spelled : (tree : Tree) (why : Refused) → Parses (Ok tree) words → IsRefusedTree (text, tokens) why → All IsWord words → ⊥
-      spelled tree why is (syntax m again e) real = absurd (cc (law words (Ok tree) (Err (P.Syntax m)) real is again tt tt))
-      spelled tree why is (nesting m again e) real = absurd (cc (law words (Ok tree) (Err (P.Nesting m)) real is again tt tt))
+      spelled : (tree : Tree) (why : Refused) → Parses (Ok tree) words → IsRefusedTree (text, tokens) why →
+          All IsWord words → ⊥
+      spelled tree why is (syntax m again e) real =
+          absurd (cc (law words (Ok tree) (Err (P.Syntax m)) real is again tt tt))
+      spelled tree why is (nesting m again e) real =
+          absurd (cc (law words (Ok tree) (Err (P.Nesting m)) real is again tt tt))
 
-      by_cases : (one other : Result Tree Refused) → has_tree (text, tokens) one → has_tree (text, tokens) other → All IsWord words → one ≡ other
+      by_cases : (one other : Result Tree Refused) → has_tree (text, tokens) one →
+          has_tree (text, tokens) other → All IsWord words → one ≡ other
       by_cases (Ok tree) (Ok found) is again real = ap Ok (again.1 tree is.0)
-      by_cases (Ok tree) (Err why) is again real = absurd (spelled tree why is (refused_of (text, tokens) why again) real)
-      by_cases (Err why) (Ok tree) is again real = absurd (spelled tree why again (refused_of (text, tokens) why is) real)
+      by_cases (Ok tree) (Err why) is again real =
+          absurd (spelled tree why is (refused_of (text, tokens) why again) real)
+      by_cases (Err why) (Ok tree) is again real =
+          absurd (spelled tree why again (refused_of (text, tokens) why is) real)
       by_cases (Err why) (Err cause) is again real =
-          ap Err (refusals why cause (refused_of (text, tokens) why is) (refused_of (text, tokens) cause again) real)
+          ap Err (refusals why cause (refused_of (text, tokens) why is)
+          (refused_of (text, tokens) cause again) real)
 
 -- where an input is refused
 pub data IsRefusedInput (text : List ℕ) (why : Refused) : Type 0 where
@@ -124,7 +140,8 @@ input_of text R.Action fault = absurd fault
 
 module _ (law : (text : List ℕ) (a b : Result (List ℤ) InputRefusal) → ReadsInput a text → ReadsInput b text →
     (a ≡ Err I.Memory → ⊥) → (b ≡ Err I.Memory → ⊥) → a ≡ b) where
-  read_refusals : (text : List ℕ) (why cause : Refused) → IsRefusedInput text why → IsRefusedInput text cause → why ≡ cause
+  read_refusals : (text : List ℕ) (why cause : Refused) → IsRefusedInput text why →
+      IsRefusedInput text cause → why ≡ cause
   read_refusals text why cause (too_long long is) (too_long long' is') = is ∙ sym is'
   read_refusals text why cause (too_long long is) (bad n again f) = absurd (omega (arith, long, again.0))
   read_refusals text why cause (bad m is e) (too_long long f) = absurd (omega (arith, long, is.0))
@@ -132,7 +149,8 @@ module _ (law : (text : List ℕ) (a b : Result (List ℤ) InputRefusal) → Rea
       let same : m ≡ n = cc (law text (Err (I.Bad m)) (Err (I.Bad n)) is again (λ x. cc x) (λ x. cc x)) in
       e ∙ ap R.Input same ∙ sym f
 
-  read_or_refused : (text : List ℕ) (numbers : List ℤ) (why : Refused) → ReadsInput (Ok numbers) text → IsRefusedInput text why → ⊥
+  read_or_refused : (text : List ℕ) (numbers : List ℤ) (why : Refused) → ReadsInput (Ok numbers) text →
+      IsRefusedInput text why → ⊥
   read_or_refused text numbers why is (too_long long f) = omega (arith, long, is.0)
   read_or_refused text numbers why is (bad n again f) =
       cc (law text (Ok numbers) (Err (I.Bad n)) is again (λ x. cc x) (λ x. cc x))
@@ -141,7 +159,9 @@ module _ (law : (text : List ℕ) (a b : Result (List ℤ) InputRefusal) → Rea
   pub one_has_input : IsOne has_input
   one_has_input text (Ok ns) (Ok ms) is again =
       let same : ns ≡ ms = cc (law text (Ok ns) (Ok ms) is again (λ x. cc x) (λ x. cc x)) in ap Ok same
-  one_has_input text (Ok ns) (Err why) is again = absurd (read_or_refused text ns why is (input_of text why again))
-  one_has_input text (Err why) (Ok ns) is again = absurd (read_or_refused text ns why again (input_of text why is))
+  one_has_input text (Ok ns) (Err why) is again =
+      absurd (read_or_refused text ns why is (input_of text why again))
+  one_has_input text (Err why) (Ok ns) is again =
+      absurd (read_or_refused text ns why again (input_of text why is))
   one_has_input text (Err why) (Err cause) is again =
       ap Err (read_refusals text why cause (input_of text why is) (input_of text cause again))

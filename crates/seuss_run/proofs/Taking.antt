@@ -9,11 +9,15 @@ use Rattle.seuss_run.specs.Readings.{Takes, TakesSome}
 pub takes_moved : (before now : Option (List ℕ)) (n : ℕ) (buffer : List ℕ) →
     IfSome before (λ left. Moves left n buffer now) → Takes before now (take n buffer)
 takes_moved None now n buffer moved = tt
-takes_moved (Some left) now n buffer moved =
-    (drop n left, sym (take-append-drop n left) ∙ ap (λ front. front ++ drop n left) (sym moved.front), moved.rest)
+takes_moved (Some left) now n buffer moved = (
+  drop n left,
+  sym (take-append-drop n left) ∙ ap (λ front. front ++ drop n left) (sym moved.front),
+  moved.rest,
+)
 
 -- two takes take their bytes one after the other
-pub takes_more : (a b c : Option (List ℕ)) (xs ys : List ℕ) → Takes a b xs → Takes b c ys → Takes a c (xs ++ ys)
+pub takes_more : (a b c : Option (List ℕ)) (xs ys : List ℕ) → Takes a b xs → Takes b c ys →
+    Takes a c (xs ++ ys)
 takes_more None b c xs ys first second = tt
 takes_more (Some left) b c xs ys first second =
     let told : Takes (Some first.0) c ys = subst (λ (o : Option (List ℕ)). Takes o c ys) first.2 second in

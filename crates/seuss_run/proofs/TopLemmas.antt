@@ -32,13 +32,19 @@ read_few next bytes made long (read, (is, few), others) = omega (arith, long, fe
 long_not_accepted : (command : Command) (bytes : List ℕ) (task : Task) → 2097156 < length bytes →
     IsVerdict command bytes (Ok task) → ⊥
 unfolding IsVerdict
-long_not_accepted (C.Run rounds workers budget) bytes task long (given, loaded, short) = read_few (is_split >=> is_loaded_parts) bytes given long loaded
-long_not_accepted (C.Tight actions) bytes task long (given, loaded, named) = read_few (is_split >=> is_loaded_parts) bytes given long loaded
-long_not_accepted C.Matrix bytes task long (given, loaded, made) = read_few (is_split >=> is_loaded_parts) bytes given long loaded
-long_not_accepted C.Check bytes task long (given, loaded, made) = read_few (is_split >=> is_loaded_parts) bytes given long loaded
-long_not_accepted C.Print bytes task long (tree, read, made) = read_few (is_split >=> tree_of) bytes tree long read
+long_not_accepted (C.Run rounds workers budget) bytes task long (given, loaded, short) =
+    read_few (is_split >=> is_loaded_parts) bytes given long loaded
+long_not_accepted (C.Tight actions) bytes task long (given, loaded, named) =
+    read_few (is_split >=> is_loaded_parts) bytes given long loaded
+long_not_accepted C.Matrix bytes task long (given, loaded, made) =
+    read_few (is_split >=> is_loaded_parts) bytes given long loaded
+long_not_accepted C.Check bytes task long (given, loaded, made) =
+    read_few (is_split >=> is_loaded_parts) bytes given long loaded
+long_not_accepted C.Print bytes task long (tree, read, made) =
+    read_few (is_split >=> tree_of) bytes tree long read
 
-pub long_answers : (command : Command) (bytes : List ℕ) (status : ℕ) (text : List ℕ) → 2097156 < length bytes →
+pub long_answers : (command : Command) (bytes : List ℕ) (status : ℕ) (text : List ℕ) →
+    2097156 < length bytes →
     status ≡ 3 → text ≡ refusal R.Long → Answers command bytes status text
 unfolding Answers
 long_answers command bytes status text long status_is text_is =
@@ -46,17 +52,21 @@ long_answers command bytes status text long status_is text_is =
 
 -- a command that isn't known, and no other one
 pub unknown_command : (all : Bool) (words : List (List ℕ)) (command : Command) (known : Bool) →
-    IsCommand words command → (Knows all command → IsTrue known) → known ≡ false → HasNoCommand (Knows all) words
+    IsCommand words command → (Knows all command → IsTrue known) → known ≡ false →
+    HasNoCommand (Knows all) words
 unknown_command all words command known spelled knows is = λ c c_known c_spelled.
-    absurd (cc (subst IsTrue is (knows (subst (λ (d : Command). Knows all d) (one_command words c command c_spelled spelled) c_known))))
+    absurd (cc (subst IsTrue is (knows (subst (λ (d : Command). Knows all d)
+    (one_command words c command c_spelled spelled) c_known))))
 
 -- what a known command answers is what is answered
-pub known_ends : (all : Bool) (words : List (List ℕ)) (before now : Option (List ℕ)) (command : Command) (status : ℕ)
+pub known_ends : (all : Bool) (words : List (List ℕ)) (before now : Option (List ℕ)) (command : Command)
+    (status : ℕ)
     (text : List ℕ) → Knows all command → IsCommand words command →
     (bytes : List ℕ) × WereRead before now bytes × Answers command bytes status text →
     Ends (Knows all) words before now status text
 unfolding Answers
-known_ends all words before now command status text known spelled (bytes, read, inl (is, reason, refused, told)) =
+known_ends all words before now command status text known spelled
+    (bytes, read, inl (is, reason, refused, told)) =
     inr (inl (
       is,
       record {
@@ -70,7 +80,8 @@ known_ends all words before now command status text known spelled (bytes, read, 
         told = told;
       },
     ))
-known_ends all words before now command status text known spelled (bytes, inl all_read, inr (low, task, accepted, did)) =
+known_ends all words before now command status text known spelled
+    (bytes, inl all_read, inr (low, task, accepted, did)) =
     inr (inr (
       low,
       record {
@@ -84,10 +95,12 @@ known_ends all words before now command status text known spelled (bytes, inl al
         done = did;
       },
     ))
-known_ends all words before now command status text known spelled (bytes, inr (long, some), inr (low, task, accepted, did)) =
+known_ends all words before now command status text known spelled
+    (bytes, inr (long, some), inr (low, task, accepted, did)) =
     absurd (long_not_accepted command bytes task long accepted)
 
-pub known_answers : {E : Type 0} (all : Bool) (words : List (List ℕ)) (before now : Option (List ℕ)) (command : Command)
+pub known_answers : {E : Type 0} (all : Bool) (words : List (List ℕ)) (before now : Option (List ℕ))
+    (command : Command)
     (made : Result Answer E) → Knows all command → IsCommand words command →
     IfOk made (λ a. (bytes : List ℕ) × WereRead before now bytes × Answers command bytes a.status a.text) →
     IfOk made (λ a. Ends (Knows all) words before now a.status a.text)
@@ -96,19 +109,23 @@ known_answers all words before now command (Ok a) known spelled answers =
 known_answers all words before now command (Err e) known spelled answers = tt
 
 -- all the bytes that a source tells were read
-all_read : (before now : Option (List ℕ)) (bytes told : List ℕ) → before ≡ Some told → TakesAll before now bytes → told ≡ bytes
+all_read : (before now : Option (List ℕ)) (bytes told : List ℕ) → before ≡ Some told →
+    TakesAll before now bytes → told ≡ bytes
 all_read None now bytes told e read = absurd (cc)
 all_read (Some left) now bytes told e read = cc (e, read.0)
 
 -- a front of the bytes that a source tells was read
-front_read : (before now : Option (List ℕ)) (bytes told : List ℕ) → before ≡ Some told → Takes before now bytes → length bytes ≤ length told
+front_read : (before now : Option (List ℕ)) (bytes told : List ℕ) → before ≡ Some told →
+    Takes before now bytes → length bytes ≤ length told
 front_read None now bytes told e read = absurd (cc)
 front_read (Some left) now bytes told e read =
     let spelled : told ≡ bytes ++ read.0 = cc (e, read.1) in
     omega (arith, ap length spelled, length-append bytes read.0)
 
-module _ (one : (c : Command) (bytes : List ℕ) (verdict other : Result Task Refused) → IsVerdict c bytes verdict →
-    IsVerdict c bytes other → verdict ≡ other) (Known : Command → Type 0) (words : List (List ℕ)) (before now : Option (List ℕ))
+module _ (one : (c : Command) (bytes : List ℕ) (verdict other : Result Task Refused) →
+    IsVerdict c bytes verdict →
+    IsVerdict c bytes other → verdict ≡ other) (Known : Command → Type 0) (words : List (List ℕ))
+    (before now : Option (List ℕ))
     (c : Command) (told : List ℕ) (spelled : IsCommand words c) (tells : before ≡ Some told) where
   -- words and bytes that are refused aren't done
   pub refused_is_not_done : (why : Refused) (status : ℕ) (text : List ℕ) → IsVerdict c told (Err why) →
@@ -117,7 +134,8 @@ module _ (one : (c : Command) (bytes : List ℕ) (verdict other : Result Task Re
       let same = one_command words c ends.command spelled ends.spelled in
       let bytes = all_read before now ends.bytes told tells ends.read in
       cc (one ends.command ends.bytes (Err why) (Ok ends.task)
-      (subst (λ (d : Command). IsVerdict d ends.bytes (Err why)) same (subst (λ (bs : List ℕ). IsVerdict c bs (Err why)) bytes refused))
+      (subst (λ (d : Command). IsVerdict d ends.bytes (Err why)) same
+      (subst (λ (bs : List ℕ). IsVerdict c bs (Err why)) bytes refused))
       ends.accepted)
 
   -- words and bytes that are accepted aren't refused
@@ -133,12 +151,14 @@ module _ (one : (c : Command) (bytes : List ℕ) (verdict other : Result Task Re
       absurd (cc (one c told (Ok task) (Err ends.reason) accepted
       (subst (λ (bs : List ℕ). IsVerdict c bs (Err ends.reason)) (sym bytes) refused))))
       (λ (many : (2097156 < length ends.bytes) × Takes before now ends.bytes).
-      long_not_accepted c told task (omega (arith, many.0, front_read before now ends.bytes told tells many.1)) accepted)
+      long_not_accepted c told task (omega
+      (arith, many.0, front_read before now ends.bytes told tells many.1)) accepted)
       ends.read
 
 -- the words are a command that waits, or one that doesn't; those that don't begin with `run` wait for nothing
 still_command : (c : Command) (words : List (List ℕ)) → IsCommand words c → (BeginsRun words → ⊥) → IsStill c
-still_command (C.Run rounds workers budget) words spelled no_run = absurd (no_run (spelled.numbers, spelled.spelled))
+still_command (C.Run rounds workers budget) words spelled no_run =
+    absurd (no_run (spelled.numbers, spelled.spelled))
 still_command (C.Tight actions) words spelled no_run = tt
 still_command C.Matrix words spelled no_run = tt
 still_command C.Check words spelled no_run = tt
@@ -153,7 +173,8 @@ module _ (words : List (List ℕ)) (no_run : BeginsRun words → ⊥) where
   knows_still c spelled = still_command c words spelled no_run
 
 module _ (words : List (List ℕ)) (before now : Option (List ℕ)) where
-  pub any_done : (status : ℕ) (text : List ℕ) → EndsDone IsStill words before now status text → EndsDone IsAny words before now status text
+  pub any_done : (status : ℕ) (text : List ℕ) → EndsDone IsStill words before now status text →
+      EndsDone IsAny words before now status text
   any_done status text ends = record {
     command = ends.command;
     known = tt;
@@ -165,7 +186,8 @@ module _ (words : List (List ℕ)) (before now : Option (List ℕ)) where
     done = ends.done;
   }
 
-  pub any_refused : (text : List ℕ) → EndsRefused IsStill words before now text → EndsRefused IsAny words before now text
+  pub any_refused : (text : List ℕ) → EndsRefused IsStill words before now text →
+      EndsRefused IsAny words before now text
   any_refused text ends = record {
     command = ends.command;
     known = tt;
@@ -177,7 +199,8 @@ module _ (words : List (List ℕ)) (before now : Option (List ℕ)) where
     told = ends.told;
   }
 
-  pub any_ends : (BeginsRun words → ⊥) → (status : ℕ) (text : List ℕ) → Ends IsStill words before now status text →
+  pub any_ends : (BeginsRun words → ⊥) → (status : ℕ) (text : List ℕ) →
+      Ends IsStill words before now status text →
       Ends IsAny words before now status text
   any_ends no_run status text (inl (is, none, told)) = inl (is, none_at_all words no_run none, told)
   any_ends no_run status text (inr (inl (is, refused))) = inr (inl (is, any_refused text refused))

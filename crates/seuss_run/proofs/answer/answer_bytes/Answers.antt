@@ -9,5 +9,6 @@ returns-in-Ok c =
 -- the bytes are refused
 pub returns-in-Err-Refused : goal.returns-in-Err-Refused
 returns-in-Err-Refused c =
-    refused c.args.command.now c.args.bytes.now c.in-Err-Refused.reason c.refused.result c.refused.ensures.status
+    refused c.args.command.now c.args.bytes.now c.in-Err-Refused.reason c.refused.result
+    c.refused.ensures.status
     c.refused.ensures.text (rw c.in-Err-Refused.field-0-is at c.in-Err-Refused.ensures)

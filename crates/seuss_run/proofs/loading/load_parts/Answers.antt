@@ -20,7 +20,8 @@ returns-in_err-input-clause-meets c =
     same_halt is_loaded_parts (c.args.text.now, rest) loaded halt c.from_residual-in_err-input.result
     c.from_residual-in_err-input.ensures.1
     (after_program c.args.text.now rest program loaded (Err halt) c.in_ok-program.ensures.meets
-    (stopped (second_of has_input) (first_of is_certified) (program, rest) (λ numbers. (program, numbers)) loaded halt
+    (stopped (second_of has_input) (first_of is_certified) (program, rest)
+    (λ numbers. (program, numbers)) loaded halt
     (met_second has_input rest program (λ numbers. numbers) (Err halt) c.in_err-input.ensures)))
 
 -- the certificates are refused

@@ -7,5 +7,10 @@ pub returns-clause-tight : goal.returns-clause-tight
 returns-clause-tight c = λ start so_far.
     tight_goes_on c.args.program.now start c.args.budget c.args.run.now.order.list c.push.new.self
     c.args.run.now.state c.attempt_by_steps.new.state
-    (record { attempt = c.args.attempt; action = c.args.attempt % c.len.result; outcome = c.in_ok-outcome.outcome })
+    (record {
+      attempt = c.args.attempt;
+      action = c.args.attempt % c.len.result;
+      outcome =
+          c.in_ok-outcome.outcome;
+    })
     so_far c.in_ok-outcome.ensures.outcome c.in_ok-outcome.ensures.state c.in_ok-push.ensures.ok

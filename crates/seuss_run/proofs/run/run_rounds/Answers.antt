@@ -12,9 +12,11 @@ returns-then-branch-clause-lawful c =
     let before = c.loop-attempt.run.order.list in
     let after = c.attempt_next.new.run.order.list in
     let added : Adds n c.loop-attempt.attempt before after true =
-    subst (λ (b : Bool). Adds n c.loop-attempt.attempt before after b) c.if-branch.true c.in_ok-attempt_next.ensures.adds in
+    subst (λ (b : Bool). Adds n c.loop-attempt.attempt before after b) c.if-branch.true
+    c.in_ok-attempt_next.ensures.adds in
     let attempts : c.from.result * c.len.result ≡ c.args.rounds * n = cc in
-    adds_stopped_is_lawful n c.args.rounds c.loop-attempt.attempt before after i.turn i.long i.none (omega (arith, attempts)) added
+    adds_stopped_is_lawful n c.args.rounds c.loop-attempt.attempt before after i.turn i.long i.none
+    (omega (arith, attempts)) added
 
 -- an attempt that doesn't stop it is followed by the next one
 pub loop-attempt-preserved : goal.loop-attempt-preserved
@@ -24,7 +26,8 @@ loop-attempt-preserved c =
     let before = c.loop-attempt.run.order.list in
     let after = c.attempt_next.new.run.order.list in
     let added : Adds n c.loop-attempt.attempt before after false =
-    subst (λ (b : Bool). Adds n c.loop-attempt.attempt before after b) c.if-branch.false c.in_ok-attempt_next.ensures.adds in
+    subst (λ (b : Bool). Adds n c.loop-attempt.attempt before after b) c.if-branch.false
+    c.in_ok-attempt_next.ensures.adds in
     record {
       turn = adds_in_turn n c.loop-attempt.attempt before after false i.turn i.long added;
       long = adds_length n c.loop-attempt.attempt before after false i.long added;

@@ -3,7 +3,8 @@ use Rattle.seuss_run.proofs.TopLemmas.{long_answers}
 use Rattle.seuss_run.proofs.top.answer_command.Goals as goal
 
 -- more bytes were taken than are read
-pub returns-in_ok-refused-in-Err-TooLong-clause-answers : goal.returns-in_ok-refused-in-Err-TooLong-clause-answers
+pub returns-in_ok-refused-in-Err-TooLong-clause-answers :
+    goal.returns-in_ok-refused-in-Err-TooLong-clause-answers
 returns-in_ok-refused-in-Err-TooLong-clause-answers g c =
     let taken = c.read_all.ensures.too_long (c.in-Err-TooLong.is ∙ ap Err c.in-Err-TooLong.field-0-is) in
     let told = c.in_ok-refused-in-Err-TooLong.ensures in (

@@ -33,6 +33,7 @@ returns-else-asks_run-clause-write_fault g c = λ six.
       failed.1,
       failed.2,
       any_ends words (g.R.Source.left c.args.source.now) (g.R.Source.left c.seuss_still.new.source)
-          (λ begins. cc (subst IsTrue c.if-asks_run.false (c.asks_run.ensures.1 begins))) failed.1 failed.2 failed.3,
+          (λ begins. cc (subst IsTrue c.if-asks_run.false (c.asks_run.ensures.1 begins))) failed.1 failed.2
+          failed.3,
       failed.4,
     )

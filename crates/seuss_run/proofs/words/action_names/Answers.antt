@@ -22,5 +22,6 @@ returns-then-not-is_name-clause-none c = λ names e are.
       | then-not-is_name-via-then-not-is_name w ↦
           cc (w.if-not-is_name.ensures.1 (ap kind_of (c.as_bytes.ensures.value ∙ cut.0) ∙ are.0))
       | then-not-is_name-via-else-not-is_name+then-not-is_name-2 w ↦
-          cc (w.if-not-is_name-2.ensures.1 (ap kind_of (w.as_bytes-else-not-is_name.ensures.value ∙ cut.1) ∙ are.1))
+          cc (w.if-not-is_name-2.ensures.1
+          (ap kind_of (w.as_bytes-else-not-is_name.ensures.value ∙ cut.1) ∙ are.1))
     ]
