@@ -20,7 +20,8 @@ module _ (tree whole : Tree) (h : whole ≡ with_built_ins tree) where
   clear : (check : Check) → found_by check whole ≡ [] → found_by check (with_built_ins tree) ≡ []
   clear check none = sym (ap (found_by check) h) ∙ none
 
-  pub accepted : found_by C.Twice whole ≡ [] → found_by C.Unknown whole ≡ [] → found_by C.WrongKind whole ≡ [] → found_by C.WrongType whole ≡ [] →
+  pub accepted : found_by C.Twice whole ≡ [] → found_by C.Unknown whole ≡ [] →
+      found_by C.WrongKind whole ≡ [] → found_by C.WrongType whole ≡ [] →
       found_by C.Arguments whole ≡ [] → found_by C.Count whole ≡ [] → IsAccepted tree
   accepted t u k y a c = record {
     twice = clear C.Twice t;
@@ -32,36 +33,58 @@ module _ (tree whole : Tree) (h : whole ≡ with_built_ins tree) where
   }
 
   module _ (r : CheckRefusal) where
-    refuses : (check : Check) → ((l : ℕ) → BeginsWith (found_by check (with_built_ins tree)) l → FirstFails (refusal_of check l) tree) →
+    refuses : (check : Check) →
+        ((l : ℕ) → BeginsWith (found_by check (with_built_ins tree)) l →
+        FirstFails (refusal_of check l) tree) →
         Refuses check (Err r) (found_by check (with_built_ins tree)) → FirstFails r tree
     refuses check first (inl none) = subst (λ q. FirstFails q tree) (sym none) tt
     refuses check first (inr found) = subst (λ q. FirstFails q tree) (sym found.1) (first found.0 found.2)
 
-    moved : (check : Check) → Refuses check (Err r) (found_by check whole) → Refuses check (Err r) (found_by check (with_built_ins tree))
+    moved : (check : Check) → Refuses check (Err r) (found_by check whole) →
+        Refuses check (Err r) (found_by check (with_built_ins tree))
     moved check found = subst (λ v. Refuses check (Err r) (found_by check v)) h found
 
     pub twice_refuses : Refuses C.Twice (Err r) (found_by C.Twice whole) → FirstFails r tree
     twice_refuses found = refuses C.Twice (λ l b. b) (moved C.Twice found)
 
-    pub unknown_refuses : found_by C.Twice whole ≡ [] → Refuses C.Unknown (Err r) (found_by C.Unknown whole) → FirstFails r tree
+    pub unknown_refuses : found_by C.Twice whole ≡ [] →
+        Refuses C.Unknown (Err r) (found_by C.Unknown whole) → FirstFails r tree
     unknown_refuses t found = refuses C.Unknown (λ l b. (clear C.Twice t, b)) (moved C.Unknown found)
 
-    pub kind_refuses : found_by C.Twice whole ≡ [] → found_by C.Unknown whole ≡ [] → Refuses C.WrongKind (Err r) (found_by C.WrongKind whole) → FirstFails r tree
-    kind_refuses t u found = refuses C.WrongKind (λ l b. (clear C.Twice t, clear C.Unknown u, b)) (moved C.WrongKind found)
+    pub kind_refuses : found_by C.Twice whole ≡ [] → found_by C.Unknown whole ≡ [] →
+        Refuses C.WrongKind (Err r) (found_by C.WrongKind whole) → FirstFails r tree
+    kind_refuses t u found = refuses C.WrongKind (λ l b. (clear C.Twice t, clear C.Unknown u, b))
+        (moved C.WrongKind found)
 
-    pub type_refuses : found_by C.Twice whole ≡ [] → found_by C.Unknown whole ≡ [] → found_by C.WrongKind whole ≡ [] →
+    pub type_refuses : found_by C.Twice whole ≡ [] → found_by C.Unknown whole ≡ [] →
+        found_by C.WrongKind whole ≡ [] →
         Refuses C.WrongType (Err r) (found_by C.WrongType whole) → FirstFails r tree
-    type_refuses t u k found = refuses C.WrongType (λ l b. (clear C.Twice t, clear C.Unknown u, clear C.WrongKind k, b)) (moved C.WrongType found)
+    type_refuses t u k found = refuses C.WrongType
+        (λ l b. (clear C.Twice t, clear C.Unknown u, clear C.WrongKind k, b)) (moved C.WrongType found)
 
-    pub arguments_refuse : found_by C.Twice whole ≡ [] → found_by C.Unknown whole ≡ [] → found_by C.WrongKind whole ≡ [] → found_by C.WrongType whole ≡ [] →
+    pub arguments_refuse : found_by C.Twice whole ≡ [] → found_by C.Unknown whole ≡ [] →
+        found_by C.WrongKind whole ≡ [] → found_by C.WrongType whole ≡ [] →
         Refuses C.Arguments (Err r) (found_by C.Arguments whole) → FirstFails r tree
     arguments_refuse t u k y found =
-        refuses C.Arguments (λ l b. (clear C.Twice t, clear C.Unknown u, clear C.WrongKind k, clear C.WrongType y, b)) (moved C.Arguments found)
+        refuses C.Arguments (λ l b.
+        (clear C.Twice t, clear C.Unknown u, clear C.WrongKind k, clear C.WrongType y, b))
+        (moved C.Arguments found)
 
-    pub count_refuses : found_by C.Twice whole ≡ [] → found_by C.Unknown whole ≡ [] → found_by C.WrongKind whole ≡ [] → found_by C.WrongType whole ≡ [] →
-        found_by C.Arguments whole ≡ [] → Refuses C.Count (Err r) (found_by C.Count whole) → FirstFails r tree
+    pub count_refuses : found_by C.Twice whole ≡ [] → found_by C.Unknown whole ≡ [] →
+        found_by C.WrongKind whole ≡ [] → found_by C.WrongType whole ≡ [] →
+        found_by C.Arguments whole ≡ [] → Refuses C.Count (Err r) (found_by C.Count whole) →
+        FirstFails r tree
     count_refuses t u k y a found =
-        refuses C.Count (λ l b. (clear C.Twice t, clear C.Unknown u, clear C.WrongKind k, clear C.WrongType y, clear C.Arguments a, b)) (moved C.Count found)
+        refuses C.Count (λ l b. (
+          clear C.Twice t,
+          clear C.Unknown u,
+          clear C.WrongKind k,
+          clear C.WrongType y,
+          clear C.Arguments
+              a,
+          b,
+        )) (moved C.Count found)
 
 -- how the checks end
-pub ruleset judging = (twice_refuses, unknown_refuses, kind_refuses, type_refuses, arguments_refuse, count_refuses, accepted)
+pub ruleset judging =
+    (twice_refuses, unknown_refuses, kind_refuses, type_refuses, arguments_refuse, count_refuses, accepted)

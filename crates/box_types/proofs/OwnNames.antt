@@ -1,5 +1,6 @@
 -- Where the check of names that stand twice finds nothing, names are their items' own.
-use Rattle.std.proofs.Common.{◌≡◌, ◌≢◌, ℕ, zero, suc, ◌+◌, ◌<◌, ◌≤◌, Bool, true, false, ◌||◌, List, [], ◌∷◌, ◌++◌, All, AllPairs, get_or, length, take, refl, sym, ◌∙◌, ap, arith}
+use Rattle.std.proofs.Common.{◌≡◌, ◌≢◌, ℕ, zero, suc, ◌+◌, ◌<◌, ◌≤◌, Bool, true, false, ◌||◌, List, [], ◌∷◌}
+use Rattle.std.proofs.Common.{◌++◌, All, AllPairs, get_or, length, take, refl, sym, ◌∙◌, ap, arith}
 use Rattle.std.specs.Str.{bytes_eq}
 use Rattle.std.proofs.lemmas.Bool.{or_parts}
 use Rattle.std.proofs.lemmas.Bool.Decides.{not_from_Decides}
@@ -12,7 +13,8 @@ use Rattle.seuss_program.specs.declared.tree.Tree.{Tree}
 use Rattle.box_types.specs.declared.scopes.Scope.{Scope}
 use Rattle.box_types.specs.BuiltInTexts.{with_built_ins}
 use Rattle.box_types.specs.Scopes.{same}
-use Rattle.box_types.specs.Walks.{Walk, numbered, walked, procedure, procedures, given, variable, cat, box, CatName, ProcName, BoxName}
+use Rattle.box_types.specs.Walks.{Walk, numbered, walked, procedure, procedures, given, variable, cat, box}
+use Rattle.box_types.specs.Walks.{CatName, ProcName, BoxName}
 use Rattle.box_types.specs.Twice.{fails, has_name, has_given, has_var, has_proc, is_member, twice_at}
 use Rattle.box_types.specs.Faults.{twice}
 use Rattle.box_types.specs.OwnNames.{ProcsDiffer, HasOwnNames}

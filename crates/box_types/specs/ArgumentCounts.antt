@@ -5,7 +5,9 @@ use Rattle.seuss_program.specs.declared.tree.Proc.{Proc}
 use Rattle.seuss_program.specs.declared.tree.Cat.{Cat}
 use Rattle.box_types.specs.Scopes.{cat_named, method_called}
 use Rattle.box_types.specs.Twice.{fails}
-use Rattle.box_types.specs.Walks.{CatName, GivenName, VarName, ProcName, LocalName, GivenCat, When, Value, Assigned, Takes, Target, Method, First, Second, HintName, BoxName, BoxCat, BoxGiven, Test}
+use Rattle.box_types.specs.Walks.{CatName, GivenName, VarName, ProcName, LocalName, GivenCat, When, Value}
+use Rattle.box_types.specs.Walks.{Assigned, Takes, Target, Method, First, Second, HintName, BoxName, BoxCat}
+use Rattle.box_types.specs.Walks.{BoxGiven, Test}
 
 -- whether a number is another one than declared, where that is known
 abbrev pub is_another : Option ℕ → ℕ → Bool
@@ -23,7 +25,8 @@ given_to c = option_map (λ (c : Cat Name). length c.given) c
 abbrev pub arguments_at : Test
 arguments_at (Method cats own visible c) =
     fails (is_another (taken_by (method_called cats own visible c)) (length c.args)) c.method.line
-arguments_at (BoxCat cats b) = fails (is_another (given_to (cat_named cats b.cat)) (length b.given)) b.cat.line
+arguments_at (BoxCat cats b) = fails (is_another (given_to (cat_named cats b.cat)) (length b.given))
+    b.cat.line
 arguments_at (CatName cats n name) = []
 arguments_at (GivenName own n name) = []
 arguments_at (VarName own n name) = []

@@ -1,5 +1,6 @@
 -- Items that pass a limit. Of those that are too many, the first one does.
-use Rattle.std.specs.Prelude.{ℕ, ◌+◌, ◌==◌, nat_lt, Bool, ◌&&◌, ◌||◌, List, [], ◌∷◌, length, take, Option, None, Some}
+use Rattle.std.specs.Prelude.{ℕ, ◌+◌, ◌==◌, nat_lt, Bool, ◌&&◌, ◌||◌, List, [], ◌∷◌, length, take, Option}
+use Rattle.std.specs.Prelude.{None, Some}
 use Rattle.std.specs.List.{count_by}
 use Rattle.seuss_program.specs.declared.tree.Name.{Name}
 use Rattle.seuss_program.specs.declared.tree.Proc.{Proc}
@@ -8,7 +9,9 @@ use Rattle.seuss_program.specs.declared.tree.BoxDecl.{BoxDecl}
 use Rattle.box_types.specs.Scopes.{cat_named}
 use Rattle.box_types.specs.Twice.{fails}
 use Rattle.box_types.specs.WrongKind.{is_action}
-use Rattle.box_types.specs.Walks.{CatName, GivenName, VarName, ProcName, LocalName, GivenCat, When, Value, Assigned, Takes, Target, Method, First, Second, HintName, BoxName, BoxCat, BoxGiven, Test}
+use Rattle.box_types.specs.Walks.{CatName, GivenName, VarName, ProcName, LocalName, GivenCat, When, Value}
+use Rattle.box_types.specs.Walks.{Assigned, Takes, Target, Method, First, Second, HintName, BoxName, BoxCat}
+use Rattle.box_types.specs.Walks.{BoxGiven, Test}
 
 -- how many actions a box of a cat has
 abbrev pub actions_in : Option (Cat Name) → ℕ

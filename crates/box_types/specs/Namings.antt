@@ -32,7 +32,8 @@ use Rattle.box_types.specs.declared.scopes.Local.{Local}
 use Rattle.box_types.specs.declared.scopes.Scope.{Scope}
 use Rattle.box_types.specs.declared.scopes.Meaning.{Meaning}
 use Rattle.box_types.specs.declared.scopes.Meaning.TheVariants as M
-use Rattle.box_types.specs.Scopes.{number_of, meaning_of, meaning_in, target_cat, proc_number, declared, behind, at_head, with_result}
+use Rattle.box_types.specs.Scopes.{number_of, meaning_of, meaning_in, target_cat, proc_number, declared}
+use Rattle.box_types.specs.Scopes.{behind, at_head, with_result}
 use Rattle.box_types.specs.BuiltInTexts.{with_built_ins}
 use Rattle.box_types.specs.Actions.{actions_of}
 
@@ -184,7 +185,13 @@ module _ (cats : List (Cat Name)) (own : Cat Name) where
 
 -- the methods and the variables of a certificate
 abbrev pub hint : Cat Name → Hint Name → Hint Ref
-hint own h = record { front = h.front; name = ref_of (meaning_in own h.name); depth = h.depth; line = h.line }
+hint own h = record {
+  front = h.front;
+  name = ref_of (meaning_in own h.name);
+  depth = h.depth;
+  line =
+      h.line;
+}
 
 abbrev pub semi : Cat Name → Semi Name → Semi Ref
 semi own s = record {

@@ -1,6 +1,7 @@
 -- What a name stands for: first among the names that are visible at a place of a procedure, then among
 -- those of its cat.
-use Rattle.std.specs.Prelude.{ℕ, ◌+◌, Bool, false, if◌then◌else◌, List, [], ◌∷◌, ◌++◌, length, codes, slice_get, Option, None, Some, option_map, option_and_then}
+use Rattle.std.specs.Prelude.{ℕ, ◌+◌, Bool, false, if◌then◌else◌, List, [], ◌∷◌, ◌++◌, length, codes}
+use Rattle.std.specs.Prelude.{slice_get, Option, None, Some, option_map, option_and_then}
 use Rattle.std.specs.List.{position_from, find}
 use Rattle.std.specs.Str.{bytes_eq}
 use Rattle.seuss_program.specs.declared.tree.Name.{Name}
@@ -107,7 +108,8 @@ method_called cats own visible call =
 -- a name that is declared here takes the next slot, and is visible from here on
 abbrev pub declared : Name → Kind → Bool → Scope → Scope
 declared name kind is_param scope = record {
-  visible = scope.visible ++ record { name = name; kind = kind; slot = scope.next; is_param = is_param } ∷ [];
+  visible = scope.visible ++ record { name = name; kind = kind; slot = scope.next; is_param = is_param }
+      ∷ [];
   next = scope.next + 1;
   earlier = scope.earlier ++ name ∷ [];
 }

@@ -12,7 +12,9 @@ use Rattle.seuss_program.specs.declared.tree.Cat.{Cat}
 use Rattle.seuss_program.specs.declared.tree.BoxDecl.{BoxDecl}
 use Rattle.box_types.specs.declared.scopes.Local.{Local}
 use Rattle.box_types.specs.Scopes.{same}
-use Rattle.box_types.specs.Walks.{CatName, GivenName, VarName, ProcName, LocalName, GivenCat, When, Value, Assigned, Takes, Target, Method, First, Second, HintName, BoxName, BoxCat, BoxGiven, Test}
+use Rattle.box_types.specs.Walks.{CatName, GivenName, VarName, ProcName, LocalName, GivenCat, When, Value}
+use Rattle.box_types.specs.Walks.{Assigned, Takes, Target, Method, First, Second, HintName, BoxName, BoxCat}
+use Rattle.box_types.specs.Walks.{BoxGiven, Test}
 
 -- the line of a place that fails
 abbrev pub fails : Bool → ℕ → List ℕ
@@ -37,7 +39,8 @@ has_local ls name = has_name (λ (l : Local). l.name) ls name
 
 -- whether a name is that of a given box, of a variable or of one of the first procedures of a cat
 abbrev pub is_member : Cat Name → ℕ → Name → Bool
-is_member own n name = has_given own.given name || (has_var own.vars name || has_proc (take n own.procs) name)
+is_member own n name = has_given own.given name ||
+    (has_var own.vars name || has_proc (take n own.procs) name)
 
 -- two certificates with the same methods, in the same order
 abbrev pub same_pair : Semi Name → Semi Name → Bool
@@ -57,7 +60,8 @@ twice_at (ProcName own n q earlier) =
     fails (is_member own n q.name || has_name (λ (m : Name). m) earlier q.name) q.name.line
 twice_at (LocalName own n scope name) =
     fails (is_member own (n + 1) name || has_local scope.visible name) name.line
-twice_at (First own n s) = fails (list_any (λ (t : Semi Name). same_pair t s) (take n own.semis)) s.first.line
+twice_at (First own n s) = fails (list_any (λ (t : Semi Name). same_pair t s) (take n own.semis))
+    s.first.line
 twice_at (HintName own s n h) =
     fails (list_any (λ (g : Hint Name). same_hint g h) (take n s.hints)) h.name.line
 twice_at (BoxName cats boxes n b) =

@@ -11,7 +11,9 @@ use Rattle.box_types.specs.declared.scopes.Meaning.{Meaning}
 use Rattle.box_types.specs.declared.scopes.Meaning.TheVariants as M
 use Rattle.box_types.specs.Scopes.{meaning_of, meaning_in, cat_named, target_cat}
 use Rattle.box_types.specs.Twice.{fails, has_name}
-use Rattle.box_types.specs.Walks.{CatName, GivenName, VarName, ProcName, LocalName, GivenCat, When, Value, Assigned, Takes, Target, Method, First, Second, HintName, BoxName, BoxCat, BoxGiven, Test}
+use Rattle.box_types.specs.Walks.{CatName, GivenName, VarName, ProcName, LocalName, GivenCat, When, Value}
+use Rattle.box_types.specs.Walks.{Assigned, Takes, Target, Method, First, Second, HintName, BoxName, BoxCat}
+use Rattle.box_types.specs.Walks.{BoxGiven, Test}
 
 -- what is found at each name of an expression, in the order of the text
 abbrev pub names_step : (Name → List ℕ) → Node-F Name (List ℕ) (List ℕ) → List ℕ

@@ -13,7 +13,9 @@ use Rattle.box_types.specs.declared.scopes.Meaning.TheVariants as M
 use Rattle.box_types.specs.Scopes.{meaning_of, meaning_in, target_cat}
 use Rattle.box_types.specs.Twice.{fails}
 use Rattle.box_types.specs.Unknown.{in_names}
-use Rattle.box_types.specs.Walks.{CatName, GivenName, VarName, ProcName, LocalName, GivenCat, When, Value, Assigned, Takes, Target, Method, First, Second, HintName, BoxName, BoxCat, BoxGiven, Test}
+use Rattle.box_types.specs.Walks.{CatName, GivenName, VarName, ProcName, LocalName, GivenCat, When, Value}
+use Rattle.box_types.specs.Walks.{Assigned, Takes, Target, Method, First, Second, HintName, BoxName, BoxCat}
+use Rattle.box_types.specs.Walks.{BoxGiven, Test}
 
 -- a given box and a procedure are no values
 abbrev pub is_no_value : Meaning → Bool

@@ -1,5 +1,6 @@
 -- Expressions whose type is known and isn't the one wanted.
-use Rattle.std.specs.Prelude.{ℕ, Bool, true, false, not, ◌||◌, List, [], ◌∷◌, ◌++◌, slice_get, Option, None, Some, option_map, option_and_then}
+use Rattle.std.specs.Prelude.{ℕ, Bool, true, false, not, ◌||◌, List, [], ◌∷◌, ◌++◌, slice_get, Option, None}
+use Rattle.std.specs.Prelude.{Some, option_map, option_and_then}
 use Rattle.seuss_program.specs.declared.tree.Name.{Name}
 use Rattle.seuss_program.specs.declared.tree.Kind.{Kind}
 use Rattle.seuss_program.specs.declared.tree.Kind.TheVariants as K
@@ -17,7 +18,9 @@ use Rattle.seuss_program.specs.declared.tree.BoxDecl.{BoxDecl}
 use Rattle.box_types.specs.declared.scopes.Local.{Local}
 use Rattle.box_types.specs.Scopes.{same, named, meaning_of, cat_named, method_called}
 use Rattle.box_types.specs.Twice.{fails}
-use Rattle.box_types.specs.Walks.{CatName, GivenName, VarName, ProcName, LocalName, GivenCat, When, Value, Assigned, Takes, Target, Method, First, Second, HintName, BoxName, BoxCat, BoxGiven, Test, kind_of}
+use Rattle.box_types.specs.Walks.{CatName, GivenName, VarName, ProcName, LocalName, GivenCat, When, Value}
+use Rattle.box_types.specs.Walks.{Assigned, Takes, Target, Method, First, Second, HintName, BoxName, BoxCat}
+use Rattle.box_types.specs.Walks.{BoxGiven, Test, kind_of}
 
 -- whether a known type isn't the one wanted
 abbrev pub is_other : Kind → Kind → Bool

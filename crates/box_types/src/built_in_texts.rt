@@ -1,5 +1,7 @@
 ghost use Rattle.std.specs.Prelude.{◌≡◌, ◌∷◌, [], ◌≤◌, length, drop, IfOk};
-ghost use Rattle.box_types.specs.BuiltInTexts.{word, expression, queue, use_of, of_queue, two, assignment, read, write, input, output, with_built_ins as with_cats};
+ghost use Rattle.box_types.specs.BuiltInTexts.{word, expression, queue, use_of, of_queue, two, assignment};
+ghost use Rattle.box_types.specs.BuiltInTexts.{read};
+ghost use Rattle.box_types.specs.BuiltInTexts.{write, input, output, with_built_ins as with_cats};
 
 use seuss_base::{Box, Ints, List, Memory, Text};
 use seuss_program::{

@@ -3,7 +3,9 @@ ghost use Rattle.box_types.specs.Answers.{Stops, HasType};
 ghost use Rattle.box_types.specs.Twice.{fails};
 ghost use Rattle.box_types.specs.Unknown.{in_names, unknown_name, is_nothing};
 ghost use Rattle.box_types.specs.WrongKind.{no_value, is_no_value};
-ghost use Rattle.box_types.specs.WrongType.{Typed, differs, is_other, is_seq, gives, refuses, beside, wrong, one, two, given_by, part as part_of};
+ghost use Rattle.box_types.specs.WrongType.{Typed, differs, is_other, is_seq, gives, refuses, beside};
+ghost use Rattle.box_types.specs.WrongType.{wrong, one};
+ghost use Rattle.box_types.specs.WrongType.{two, given_by, part as part_of};
 ghost use Rattle.box_types.specs.Walks.{kind_of};
 
 use crate::checking::Stop;

@@ -1,6 +1,9 @@
 ghost use Rattle.std.specs.Prelude.{◌≡◌, ◌<◌, length, IfSome, Option};
 ghost use Rattle.std.specs.Option.{option_copied};
-ghost use Rattle.box_types.specs.Scopes.{named, number_of as place_of_name, cat_named as cat_of_name, local_meaning, var_meaning, given_meaning, proc_meaning, meaning_in, meaning_of, given_at, target_cat, method_called, kind_in};
+ghost use Rattle.box_types.specs.Scopes.{named, number_of as place_of_name, cat_named as cat_of_name};
+ghost use Rattle.box_types.specs.Scopes.{local_meaning, var_meaning, given_meaning, proc_meaning};
+ghost use Rattle.box_types.specs.Scopes.{meaning_in};
+ghost use Rattle.box_types.specs.Scopes.{meaning_of, given_at, target_cat, method_called, kind_in};
 ghost use Rattle.box_types.specs.Twice.{has_name as has_the_name};
 
 use crate::names::Named;

@@ -1,7 +1,8 @@
 ghost use Rattle.std.specs.Prelude.{◌≡◌, map, take, length, Option, Some, option_map, unwrap_or, IfOk, OnOk};
 ghost use Rattle.std.specs.Option.{option_copied};
 ghost use Rattle.box_types.specs.Scopes.{number_of as place_of_name};
-ghost use Rattle.box_types.specs.Namings.{ref_of, name_ref, expression as expression_of, method_in, call as call_of, statement as statement_of, body as body_of};
+ghost use Rattle.box_types.specs.Namings.{ref_of, name_ref, expression as expression_of, method_in};
+ghost use Rattle.box_types.specs.Namings.{call as call_of, statement as statement_of, body as body_of};
 ghost use Rattle.seuss_program.specs.declared.tree.Statement.TheVariants.{Let, Assign, Call as CallOf};
 ghost use Rattle.seuss_program.specs.declared.tree.Ref.TheVariants.{Slot};
 

@@ -1,5 +1,8 @@
 ghost use Rattle.std.specs.Prelude.{◌≡◌, ◌++◌, [], map, take, length, slice_get, Some, IfOk, OnOk};
-ghost use Rattle.box_types.specs.Namings.{bound, early, alternative, alternatives, form, with_params, procedure, hint, semi, given, cat, cat_number, box_number, box_info, program_of};
+ghost use Rattle.box_types.specs.Namings.{bound, early, alternative, alternatives, form, with_params};
+ghost use Rattle.box_types.specs.Namings.{procedure};
+ghost use Rattle.box_types.specs.Namings.{hint, semi, given, cat, cat_number, box_number, box_info};
+ghost use Rattle.box_types.specs.Namings.{program_of};
 ghost use Rattle.box_types.specs.Actions.{actions_among, procedures_in, actions_of};
 
 use crate::call_places::Home;

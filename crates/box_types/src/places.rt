@@ -5,7 +5,9 @@ ghost use Rattle.box_types.specs.Twice.{is_member, has_given, has_var, has_proc,
 ghost use Rattle.box_types.specs.Unknown.{unknown_cat};
 ghost use Rattle.box_types.specs.WrongKind.{is_fixed};
 ghost use Rattle.box_types.specs.Limits.{result_passes};
-ghost use Rattle.box_types.specs.Walks.{CatName, GivenName, VarName, ProcName, LocalName, GivenCat, When, Value, Assigned};
+ghost use Rattle.box_types.specs.Walks.{CatName, GivenName, VarName, ProcName, LocalName, GivenCat, When};
+ghost use Rattle.box_types.specs.Walks.{Value};
+ghost use Rattle.box_types.specs.Walks.{Assigned};
 
 use crate::checking::{Check, Stop};
 use crate::expressions::{find_no_value_in, find_unknown, find_unknown_in, find_wrong};

@@ -4,7 +4,10 @@ ghost use Rattle.seuss_program.specs.declared.tree.Kind.TheVariants as K;
 ghost use Rattle.box_types.specs.Answers.{Stops, Walks};
 ghost use Rattle.box_types.specs.Faults.{test_of};
 ghost use Rattle.box_types.specs.Scopes.{declared};
-ghost use Rattle.box_types.specs.Walks.{Walked, numbered, argument, kind_at, kind_of, params_of, call as call_of, taken, statement as statement_of, body as body_of, LocalName, Value, Assigned};
+ghost use Rattle.box_types.specs.Walks.{Walked, numbered, argument, kind_at, kind_of, params_of};
+ghost use Rattle.box_types.specs.Walks.{call as call_of};
+ghost use Rattle.box_types.specs.Walks.{taken, statement as statement_of, body as body_of, LocalName, Value};
+ghost use Rattle.box_types.specs.Walks.{Assigned};
 ghost use Rattle.box_types.specs.Scopes.{meaning_of};
 
 use crate::call_places::{Home, at_method, at_result, at_target};

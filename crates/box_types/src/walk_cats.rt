@@ -1,7 +1,11 @@
 ghost use Rattle.std.specs.Prelude.{◌≡◌, ◌<◌, ◌≤◌, ◌++◌, [], length, take, Some, OnOk};
 ghost use Rattle.box_types.specs.Answers.{Stops, Walks};
 ghost use Rattle.box_types.specs.Faults.{test_of};
-ghost use Rattle.box_types.specs.Walks.{Walked, numbered, walked, three, head, early, bound, body, alternative, form, param, signature, procedure, procedures, given, variable, hint, semi, cat, box_given, box, found};
+ghost use Rattle.box_types.specs.Walks.{Walked, numbered, walked, three, head, early, bound, body};
+ghost use Rattle.box_types.specs.Walks.{alternative};
+ghost use Rattle.box_types.specs.Walks.{form, param, signature, procedure, procedures, given, variable};
+ghost use Rattle.box_types.specs.Walks.{hint};
+ghost use Rattle.box_types.specs.Walks.{semi, cat, box_given, box, found};
 
 use crate::call_places::{Home, at_result};
 use crate::checking::{Check, Stop};

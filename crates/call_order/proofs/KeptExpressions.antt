@@ -1,6 +1,7 @@
 -- An expression whose names are known and whose types are right has, with its names as numbers, the kind
 -- that its type is.
-use Rattle.std.specs.Prelude.{◌≡◌, ℕ, nat_lt, Bool, true, false, ◌&&◌, not, if◌then◌else◌, List, [], ◌∷◌, ◌++◌, slice_get, Option, None, Some, option_and_then}
+use Rattle.std.specs.Prelude.{◌≡◌, ℕ, nat_lt, Bool, true, false, ◌&&◌, not, if◌then◌else◌, List, [], ◌∷◌}
+use Rattle.std.specs.Prelude.{◌++◌, slice_get, Option, None, Some, option_and_then}
 use Rattle.std.proofs.Common.{refl, sym, ap, subst, ◌∙◌}
 use Rattle.seuss_program.specs.declared.tree.Name.{Name}
 use Rattle.seuss_program.specs.declared.tree.Ref.{Ref}
@@ -13,8 +14,11 @@ use Rattle.seuss_program.specs.declared.tree.Fun.TheVariants as U
 use Rattle.seuss_program.specs.declared.tree.Node.{Node, fold-Node, fold-roll-Node, map-Node, roll-Node}
 use Rattle.seuss_program.specs.declared.tree.Node.TheOpen as L
 use Rattle.seuss_program.specs.declared.tree.Node.TheOpen.{Node-F}
-use Rattle.seuss_program.specs.declared.tree.Node.TheVariants.{rolls-Int, rolls-Bool, rolls-Empty, rolls-Name, rolls-Neg, rolls-Not, rolls-Two, rolls-One}
-use Rattle.seuss_program.specs.declared.tree.Expr.{Expr, Expr-F, fold_out-Expr, ind-Expr, roll-Expr, map-Expr}
+use Rattle.seuss_program.specs.declared.tree.Node.TheVariants.{rolls-Int, rolls-Bool, rolls-Empty}
+use Rattle.seuss_program.specs.declared.tree.Node.TheVariants.{rolls-Name, rolls-Neg, rolls-Not, rolls-Two}
+use Rattle.seuss_program.specs.declared.tree.Node.TheVariants.{rolls-One}
+use Rattle.seuss_program.specs.declared.tree.Expr.{Expr, Expr-F, fold_out-Expr, ind-Expr, roll-Expr}
+use Rattle.seuss_program.specs.declared.tree.Expr.{map-Expr}
 use Rattle.seuss_program.specs.declared.tree.Cat.{Cat}
 use Rattle.seuss_program.specs.Keeping as P
 use Rattle.box_types.specs.declared.scopes.Local.{Local}
@@ -59,14 +63,16 @@ is-kind-same K.Bool = refl
 is-kind-same K.Seq = refl
 
 -- an operator whose parts have the types that it takes
-of-kinds : (left right gives a b : Kind) → T.is_other left a ≡ false → T.is_other right b ≡ false → P.of_kinds left right gives a b ≡ Some gives
+of-kinds : (left right gives a b : Kind) → T.is_other left a ≡ false → T.is_other right b ≡ false →
+    P.of_kinds left right gives a b ≡ Some gives
 of-kinds left right gives a b h k =
     ap (λ (t : Bool). if t then Some gives else None)
     (ap (λ x. P.is_kind left x && P.is_kind right b) (same-kind left a h)
     ∙ (ap (λ x. P.is_kind left left && P.is_kind right x) (same-kind right b k)
     ∙ (ap (λ t. t && P.is_kind right right) (is-kind-same left) ∙ is-kind-same right)))
 
-equals : (a b : Kind) → T.is_seq (Some a) ≡ false → T.is_other a b ≡ false → (if P.is_kind a b && not (P.is_kind K.Seq a) then Some K.Bool else None) ≡ Some K.Bool
+equals : (a b : Kind) → T.is_seq (Some a) ≡ false → T.is_other a b ≡ false →
+    (if P.is_kind a b && not (P.is_kind K.Seq a) then Some K.Bool else None) ≡ Some K.Bool
 equals K.Int K.Int h k = refl
 equals K.Int K.Bool h k = absurd (cc)
 equals K.Int K.Seq h k = absurd (cc)
@@ -75,7 +81,8 @@ equals K.Bool K.Bool h k = refl
 equals K.Bool K.Seq h k = absurd (cc)
 equals K.Seq b h k = absurd (cc)
 
-two-kind : (op : Op) (a b : Kind) → T.refuses op (Some a) ≡ false → T.differs (T.beside op (Some a)) (Some b) ≡ false → P.two_kind op a b ≡ Some (T.gives op)
+two-kind : (op : Op) (a b : Kind) → T.refuses op (Some a) ≡ false →
+    T.differs (T.beside op (Some a)) (Some b) ≡ false → P.two_kind op a b ≡ Some (T.gives op)
 two-kind O.Or a b h k = of-kinds K.Bool K.Bool K.Bool a b h k
 two-kind O.And a b h k = of-kinds K.Bool K.Bool K.Bool a b h k
 two-kind O.Eq a b h k = equals a b h k
@@ -132,10 +139,12 @@ module _ (own : Cat Name) (visible : List Local) (k : P.Scope) (agrees : Agrees 
   names_of at n = fold-Node Name (List ℕ) (List ℕ) (names_step at) (λ layer. layer.node) n
 
   typed_of : Node Name → T.Typed
-  typed_of n = fold-Node Name T.Typed T.Part (T.node_step own visible) (λ layer. record { line = layer.line; typed = layer.node }) n
+  typed_of n = fold-Node Name T.Typed T.Part (T.node_step own visible)
+      (λ layer. record { line = layer.line; typed = layer.node }) n
 
   numbered_of : Node Name → Node Ref
-  numbered_of n = fold-Node Name (Node Ref) (Expr Ref) (N.node_step own visible) (λ layer. record { line = layer.line; node = layer.node }) n
+  numbered_of n = fold-Node Name (Node Ref) (Expr Ref) (N.node_step own visible)
+      (λ layer. record { line = layer.line; node = layer.node }) n
 
   kind_of_node : Node Ref → Option Kind
   kind_of_node n = fold-Node Ref (Option Kind) (Option Kind) (P.node_kind k) (λ layer. layer.node) n
@@ -146,34 +155,44 @@ module _ (own : Cat Name) (visible : List Local) (k : P.Scope) (agrees : Agrees 
 
   typed-expr : (e : Expr Name) → (T.part own visible e).typed ≡ typed_of e.node
   unfolding T.part typed_of
-  typed-expr e = ap (λ (p : T.Part). p.typed) (fold_out-Expr Name T.Typed T.Part (T.node_step own visible) (λ layer. record { line = layer.line; typed = layer.node }) e)
+  typed-expr e = ap (λ (p : T.Part). p.typed)
+      (fold_out-Expr Name T.Typed T.Part (T.node_step own visible)
+      (λ layer. record { line = layer.line; typed = layer.node }) e)
 
   numbered-expr : (e : Expr Name) → (N.expression own visible e).node ≡ numbered_of e.node
   unfolding N.expression numbered_of
   numbered-expr e = ap (λ (x : Expr Ref). x.node)
-      (fold_out-Expr Name (Node Ref) (Expr Ref) (N.node_step own visible) (λ layer. record { line = layer.line; node = layer.node }) e)
+      (fold_out-Expr Name (Node Ref) (Expr Ref) (N.node_step own visible)
+      (λ layer. record { line = layer.line; node = layer.node }) e)
 
   kind-expr : (e : Expr Ref) → P.kind_in k e ≡ kind_of_node e.node
   unfolding P.kind_in kind_of_node
   kind-expr e = fold_out-Expr Ref (Option Kind) (Option Kind) (P.node_kind k) (λ layer. layer.node) e
 
   names-roll : (at : Name → List ℕ) (d : Node-F Name (Node Name) (Expr Name)) →
-      names_of at (roll-Node Name d) ≡ names_step at (map-Node Name (Node Name) (Expr Name) (List ℕ) (List ℕ) (names_of at) (in_names at) d)
+      names_of at (roll-Node Name d) ≡ names_step at
+      (map-Node Name (Node Name) (Expr Name) (List ℕ) (List ℕ) (names_of at) (in_names at) d)
   unfolding in_names names_of
   names-roll at d = fold-roll-Node Name (List ℕ) (List ℕ) (names_step at) (λ layer. layer.node) d
 
   typed-roll : (d : Node-F Name (Node Name) (Expr Name)) →
-      typed_of (roll-Node Name d) ≡ T.node_step own visible (map-Node Name (Node Name) (Expr Name) T.Typed T.Part typed_of (T.part own visible) d)
+      typed_of (roll-Node Name d) ≡ T.node_step own visible
+      (map-Node Name (Node Name) (Expr Name) T.Typed T.Part typed_of (T.part own visible) d)
   unfolding T.part typed_of
-  typed-roll d = fold-roll-Node Name T.Typed T.Part (T.node_step own visible) (λ layer. record { line = layer.line; typed = layer.node }) d
+  typed-roll d = fold-roll-Node Name T.Typed T.Part (T.node_step own visible)
+      (λ layer. record { line = layer.line; typed = layer.node }) d
 
   numbered-roll : (d : Node-F Name (Node Name) (Expr Name)) →
-      numbered_of (roll-Node Name d) ≡ N.node_step own visible (map-Node Name (Node Name) (Expr Name) (Node Ref) (Expr Ref) numbered_of (N.expression own visible) d)
+      numbered_of (roll-Node Name d) ≡ N.node_step own visible
+      (map-Node Name (Node Name) (Expr Name) (Node Ref) (Expr Ref) numbered_of
+      (N.expression own visible) d)
   unfolding N.expression numbered_of
-  numbered-roll d = fold-roll-Node Name (Node Ref) (Expr Ref) (N.node_step own visible) (λ layer. record { line = layer.line; node = layer.node }) d
+  numbered-roll d = fold-roll-Node Name (Node Ref) (Expr Ref) (N.node_step own visible)
+      (λ layer. record { line = layer.line; node = layer.node }) d
 
   kind-roll : (d : Node-F Ref (Node Ref) (Expr Ref)) →
-      kind_of_node (roll-Node Ref d) ≡ P.node_kind k (map-Node Ref (Node Ref) (Expr Ref) (Option Kind) (Option Kind) kind_of_node (P.kind_in k) d)
+      kind_of_node (roll-Node Ref d) ≡ P.node_kind k
+      (map-Node Ref (Node Ref) (Expr Ref) (Option Kind) (Option Kind) kind_of_node (P.kind_in k) d)
   unfolding P.kind_in kind_of_node
   kind-roll d = fold-roll-Node Ref (Option Kind) (Option Kind) (P.node_kind k) (λ layer. layer.node) d
 
@@ -189,28 +208,38 @@ module _ (own : Cat Name) (visible : List Local) (k : P.Scope) (agrees : Agrees 
     pub numbered : P.kind_in k (N.expression own visible e) ≡ Some kind
 
   NodeClaim : Node Name → Type 0
-  NodeClaim n = names_of (unknown_name own visible) n ≡ [] → names_of (no_value own visible) n ≡ [] → (typed_of n).lines ≡ [] → KnownNode n
+  NodeClaim n = names_of (unknown_name own visible) n ≡ [] → names_of (no_value own visible) n ≡ [] →
+      (typed_of n).lines ≡ [] → KnownNode n
 
   abbrev pub Claim : Expr Name → Type 0
-  Claim e = in_names (unknown_name own visible) e ≡ [] → in_names (no_value own visible) e ≡ [] → (T.part own visible e).typed.lines ≡ [] → Known e
+  Claim e = in_names (unknown_name own visible) e ≡ [] → in_names (no_value own visible) e ≡ [] →
+      (T.part own visible e).typed.lines ≡ [] → Known e
 
   -- by the node of an expression
   expr-claim : (e : Expr Name) → NodeClaim e.node → Claim e
   unfolding NodeClaim
   expr-claim e claim unknown wrong typed =
       let known : KnownNode e.node =
-      claim (sym (names-expr (unknown_name own visible) e) ∙ unknown) (sym (names-expr (no_value own visible) e) ∙ wrong)
+      claim (sym (names-expr (unknown_name own visible) e) ∙ unknown)
+      (sym (names-expr (no_value own visible) e) ∙ wrong)
       (ap (λ (t : T.Typed). t.lines) (sym (typed-expr e)) ∙ typed) in record {
         kind = known.kind;
         typed = ap (λ (t : T.Typed). t.kind) (typed-expr e) ∙ known.typed;
-        numbered = kind-expr (N.expression own visible e) ∙ (ap kind_of_node (numbered-expr e) ∙ known.numbered);
+        numbered = kind-expr (N.expression own visible e)
+            ∙ (ap kind_of_node (numbered-expr e) ∙ known.numbered);
       }
 
   -- a node of a layer, by its type and its kind there
-  node-known : (d : Node-F Name (Node Name) (Expr Name)) (d' : Node-F Ref (Node Ref) (Expr Ref)) (kind : Kind) →
-      N.node_step own visible (map-Node Name (Node Name) (Expr Name) (Node Ref) (Expr Ref) numbered_of (N.expression own visible) d) ≡ roll-Node Ref d' →
-      (T.node_step own visible (map-Node Name (Node Name) (Expr Name) T.Typed T.Part typed_of (T.part own visible) d)).kind ≡ Some kind →
-      P.node_kind k (map-Node Ref (Node Ref) (Expr Ref) (Option Kind) (Option Kind) kind_of_node (P.kind_in k) d') ≡ Some kind →
+  node-known : (d : Node-F Name (Node Name) (Expr Name)) (d' : Node-F Ref (Node Ref) (Expr Ref))
+      (kind : Kind) →
+      N.node_step own visible
+      (map-Node Name (Node Name) (Expr Name) (Node Ref) (Expr Ref) numbered_of
+      (N.expression own visible) d) ≡ roll-Node Ref d' →
+      (T.node_step own visible
+      (map-Node Name (Node Name) (Expr Name) T.Typed T.Part typed_of (T.part own visible) d)).kind
+      ≡ Some kind →
+      P.node_kind k (map-Node Ref (Node Ref) (Expr Ref) (Option Kind) (Option Kind) kind_of_node
+      (P.kind_in k) d') ≡ Some kind →
       KnownNode (roll-Node Name d)
   node-known d d' kind same typed numbered = record {
     kind = kind;
@@ -219,95 +248,142 @@ module _ (own : Cat Name) (visible : List Local) (k : P.Scope) (agrees : Agrees 
   }
 
   -- a part that is of the wanted type
-  pub part-known : (e : Expr Name) (wanted : Kind) → Claim e → in_names (unknown_name own visible) e ≡ [] → in_names (no_value own visible) e ≡ [] →
-      T.wrong (Some wanted) (T.part own visible e) ≡ [] → P.kind_in k (N.expression own visible e) ≡ Some wanted
+  pub part-known : (e : Expr Name) (wanted : Kind) → Claim e → in_names (unknown_name own visible) e ≡ [] →
+      in_names (no_value own visible) e ≡ [] →
+      T.wrong (Some wanted) (T.part own visible e) ≡ [] →
+      P.kind_in k (N.expression own visible e) ≡ Some wanted
   part-known e wanted claim unknown novalue lines =
       let known : Known e = claim unknown novalue (none-left (T.part own visible e).typed.lines _ lines) in
       let other : T.is_other wanted known.kind ≡ false =
       subst (λ o. T.differs (Some wanted) o ≡ false) known.typed
-      (passes-by (T.differs (Some wanted) (T.part own visible e).typed.kind) (T.part own visible e).line (none-right (T.part own visible e).typed.lines _ lines)) in
+      (passes-by (T.differs (Some wanted) (T.part own visible e).typed.kind) (T.part own visible e).line
+      (none-right (T.part own visible e).typed.lines _ lines)) in
       known.numbered ∙ ap (λ x. Some x) (same-kind wanted known.kind other)
 
   -- one part under a node that takes it
-  one-claim : (d : Node-F Name (Node Name) (Expr Name)) (d' : Node-F Ref (Node Ref) (Expr Ref)) (e : Expr Name) (takes gives : Kind) → Claim e →
+  one-claim : (d : Node-F Name (Node Name) (Expr Name)) (d' : Node-F Ref (Node Ref) (Expr Ref))
+      (e : Expr Name) (takes gives : Kind) → Claim e →
       ((at : Name → List ℕ) → names_of at (roll-Node Name d) ≡ in_names at e) →
-      T.node_step own visible (map-Node Name (Node Name) (Expr Name) T.Typed T.Part typed_of (T.part own visible) d) ≡ T.one takes gives (T.part own visible e) →
-      N.node_step own visible (map-Node Name (Node Name) (Expr Name) (Node Ref) (Expr Ref) numbered_of (N.expression own visible) d) ≡ roll-Node Ref d' →
-      P.node_kind k (map-Node Ref (Node Ref) (Expr Ref) (Option Kind) (Option Kind) kind_of_node (P.kind_in k) d') ≡ P.where_of takes (P.kind_in k (N.expression own visible e)) gives →
+      T.node_step own visible
+      (map-Node Name (Node Name) (Expr Name) T.Typed T.Part typed_of (T.part own visible) d)
+      ≡ T.one takes gives (T.part own visible e) →
+      N.node_step own visible
+      (map-Node Name (Node Name) (Expr Name) (Node Ref) (Expr Ref) numbered_of
+      (N.expression own visible) d) ≡ roll-Node Ref d' →
+      P.node_kind k (map-Node Ref (Node Ref) (Expr Ref) (Option Kind) (Option Kind) kind_of_node
+      (P.kind_in k) d') ≡ P.where_of takes (P.kind_in k (N.expression own visible e)) gives →
       NodeClaim (roll-Node Name d)
   unfolding NodeClaim
   one-claim d d' e takes gives claim names typed same kind unknown novalue lines =
       let none : T.wrong (Some takes) (T.part own visible e) ≡ [] =
-      whole-none gives (T.wrong (Some takes) (T.part own visible e)) (ap (λ (t : T.Typed). t.lines) (sym (typed-roll d ∙ typed)) ∙ lines) in
+      whole-none gives (T.wrong (Some takes) (T.part own visible e))
+      (ap (λ (t : T.Typed). t.lines) (sym (typed-roll d ∙ typed)) ∙ lines) in
       let known : P.kind_in k (N.expression own visible e) ≡ Some takes =
-      part-known e takes claim (sym (names (unknown_name own visible)) ∙ unknown) (sym (names (no_value own visible)) ∙ novalue) none in
+      part-known e takes claim (sym (names (unknown_name own visible)) ∙ unknown)
+      (sym (names (no_value own visible)) ∙ novalue) none in
       node-known d d' gives same
       (ap (λ (t : T.Typed). t.kind) typed ∙ ap (λ ls. (T.whole gives ls).kind) none)
-      (kind ∙ (ap (λ o. P.where_of takes o gives) known ∙ ap (λ (t : Bool). if t then Some gives else None) (is-kind-same takes)))
+      (kind ∙ (ap (λ o. P.where_of takes o gives) known
+      ∙ ap (λ (t : Bool). if t then Some gives else None) (is-kind-same takes)))
 
   two-claim : (op : Op) (l r : Expr Name) → Claim l → Claim r → NodeClaim (roll-Node Name (L.Two op l r))
   unfolding NodeClaim
   two-claim op l r left right unknown novalue lines =
       let d : Node-F Name (Node Name) (Expr Name) = L.Two op l r in
-      let names : (at : Name → List ℕ) → names_of at (roll-Node Name d) ≡ in_names at l ++ in_names at r = (λ at. names-roll at d) in
+      let names : (at : Name → List ℕ) → names_of at (roll-Node Name d) ≡ in_names at l ++ in_names at r =
+      (λ at. names-roll at d) in
       let pl : T.Part = T.part own visible l in
       let pr : T.Part = T.part own visible r in
-      let all : List ℕ = (pl.typed.lines ++ fails (T.refuses op pl.typed.kind) pl.line) ++ T.wrong (T.beside op pl.typed.kind) pr in
-      let none : all ≡ [] = whole-none (T.gives op) all (ap (λ (t : T.Typed). t.lines) (sym (typed-roll d)) ∙ lines) in
-      let on_left : pl.typed.lines ++ fails (T.refuses op pl.typed.kind) pl.line ≡ [] = none-left _ (T.wrong (T.beside op pl.typed.kind) pr) none in
-      let on_right : T.wrong (T.beside op pl.typed.kind) pr ≡ [] = none-right (pl.typed.lines ++ fails (T.refuses op pl.typed.kind) pl.line) _ none in
-      let a : Known l = left (none-left _ (in_names (unknown_name own visible) r) (sym (names (unknown_name own visible)) ∙ unknown))
-      (none-left _ (in_names (no_value own visible) r) (sym (names (no_value own visible)) ∙ novalue)) (none-left pl.typed.lines _ on_left) in
-      let b : Known r = right (none-right (in_names (unknown_name own visible) l) _ (sym (names (unknown_name own visible)) ∙ unknown))
-      (none-right (in_names (no_value own visible) l) _ (sym (names (no_value own visible)) ∙ novalue)) (none-left pr.typed.lines _ on_right) in
+      let all : List ℕ = (pl.typed.lines ++ fails (T.refuses op pl.typed.kind) pl.line)
+      ++ T.wrong (T.beside op pl.typed.kind) pr in
+      let none : all ≡ [] = whole-none (T.gives op) all
+      (ap (λ (t : T.Typed). t.lines) (sym (typed-roll d)) ∙ lines) in
+      let on_left : pl.typed.lines ++ fails (T.refuses op pl.typed.kind) pl.line ≡ [] =
+      none-left _ (T.wrong (T.beside op pl.typed.kind) pr) none in
+      let on_right : T.wrong (T.beside op pl.typed.kind) pr ≡ [] =
+      none-right (pl.typed.lines ++ fails (T.refuses op pl.typed.kind) pl.line) _ none in
+      let a : Known l = left
+      (none-left _ (in_names (unknown_name own visible) r)
+      (sym (names (unknown_name own visible)) ∙ unknown))
+      (none-left _ (in_names (no_value own visible) r) (sym (names (no_value own visible)) ∙ novalue))
+      (none-left pl.typed.lines _ on_left) in
+      let b : Known r = right
+      (none-right (in_names (unknown_name own visible) l) _
+      (sym (names (unknown_name own visible)) ∙ unknown))
+      (none-right (in_names (no_value own visible) l) _ (sym (names (no_value own visible)) ∙ novalue))
+      (none-left pr.typed.lines _ on_right) in
       let refused : T.refuses op (Some a.kind) ≡ false =
-      subst (λ o. T.refuses op o ≡ false) a.typed (passes-by (T.refuses op pl.typed.kind) pl.line (none-right pl.typed.lines _ on_left)) in
+      subst (λ o. T.refuses op o ≡ false) a.typed
+      (passes-by (T.refuses op pl.typed.kind) pl.line (none-right pl.typed.lines _ on_left)) in
       let differing : T.differs (T.beside op (Some a.kind)) (Some b.kind) ≡ false =
       subst (λ o. T.differs (T.beside op (Some a.kind)) o ≡ false) b.typed
       (subst (λ o. T.differs (T.beside op o) pr.typed.kind ≡ false) a.typed
-      (passes-by (T.differs (T.beside op pl.typed.kind) pr.typed.kind) pr.line (none-right pr.typed.lines _ on_right))) in
+      (passes-by (T.differs (T.beside op pl.typed.kind) pr.typed.kind) pr.line
+      (none-right pr.typed.lines _ on_right))) in
       node-known d (L.Two op (N.expression own visible l) (N.expression own visible r)) (T.gives op)
       (sym (rolls-Two op (N.expression own visible l) (N.expression own visible r)))
       (ap (λ ls. (T.whole (T.gives op) ls).kind) none)
-      (ap (λ x. option_and_then (λ left. option_and_then (P.two_kind op left) (P.kind_in k (N.expression own visible r))) x) a.numbered
-      ∙ (ap (λ x. option_and_then (P.two_kind op a.kind) x) b.numbered ∙ two-kind op a.kind b.kind refused differing))
+      (ap (λ x. option_and_then
+      (λ left. option_and_then (P.two_kind op left) (P.kind_in k (N.expression own visible r))) x)
+      a.numbered
+      ∙ (ap (λ x. option_and_then (P.two_kind op a.kind) x) b.numbered
+      ∙ two-kind op a.kind b.kind refused differing))
 
   name-claim : (name : Name) → NodeClaim (roll-Node Name (L.Name name))
   unfolding NodeClaim
   name-claim name unknown novalue lines =
       let d : Node-F Name (Node Name) (Expr Name) = L.Name name in
       let known = value-kind k (meaning_of own visible name) (agrees.at name)
-      (passes-by (is_nothing (meaning_of own visible name)) name.line (sym (names-roll (unknown_name own visible) d) ∙ unknown))
-      (passes-by (is_no_value (meaning_of own visible name)) name.line (sym (names-roll (no_value own visible) d) ∙ novalue)) in
-      node-known d (L.Name (N.name_ref own visible name)) known.0 (sym (rolls-Name (N.name_ref own visible name))) known.1 known.2
+      (passes-by (is_nothing (meaning_of own visible name)) name.line
+      (sym (names-roll (unknown_name own visible) d) ∙ unknown))
+      (passes-by (is_no_value (meaning_of own visible name)) name.line
+      (sym (names-roll (no_value own visible) d) ∙ novalue)) in
+      node-known d (L.Name (N.name_ref own visible name)) known.0
+      (sym (rolls-Name (N.name_ref own visible name))) known.1 known.2
 
-  leaf-claim : (d : Node-F Name (Node Name) (Expr Name)) (d' : Node-F Ref (Node Ref) (Expr Ref)) (kind : Kind) →
-      N.node_step own visible (map-Node Name (Node Name) (Expr Name) (Node Ref) (Expr Ref) numbered_of (N.expression own visible) d) ≡ roll-Node Ref d' →
-      (T.node_step own visible (map-Node Name (Node Name) (Expr Name) T.Typed T.Part typed_of (T.part own visible) d)).kind ≡ Some kind →
-      P.node_kind k (map-Node Ref (Node Ref) (Expr Ref) (Option Kind) (Option Kind) kind_of_node (P.kind_in k) d') ≡ Some kind →
+  leaf-claim : (d : Node-F Name (Node Name) (Expr Name)) (d' : Node-F Ref (Node Ref) (Expr Ref))
+      (kind : Kind) →
+      N.node_step own visible
+      (map-Node Name (Node Name) (Expr Name) (Node Ref) (Expr Ref) numbered_of
+      (N.expression own visible) d) ≡ roll-Node Ref d' →
+      (T.node_step own visible
+      (map-Node Name (Node Name) (Expr Name) T.Typed T.Part typed_of (T.part own visible) d)).kind
+      ≡ Some kind →
+      P.node_kind k (map-Node Ref (Node Ref) (Expr Ref) (Option Kind) (Option Kind) kind_of_node
+      (P.kind_in k) d') ≡ Some kind →
       NodeClaim (roll-Node Name d)
   unfolding NodeClaim
   leaf-claim d d' kind same typed numbered unknown novalue lines = node-known d d' kind same typed numbered
 
   -- by the layer of a node, and of an expression, whose parts have it
   node-step : (y : Node-F Name ((n : Node Name) × NodeClaim n) ((e : Expr Name) × Claim e)) →
-      NodeClaim (roll-Node Name (map-Node Name ((n : Node Name) × NodeClaim n) ((e : Expr Name) × Claim e) (Node Name) (Expr Name) (λ e. e.0) (λ e. e.0) y))
+      NodeClaim (roll-Node Name
+      (map-Node Name ((n : Node Name) × NodeClaim n) ((e : Expr Name) × Claim e) (Node Name) (Expr Name)
+      (λ e. e.0) (λ e. e.0) y))
   node-step (L.Int z) = leaf-claim (L.Int z) (L.Int z) K.Int (sym (rolls-Int z)) refl refl
   node-step (L.Bool b) = leaf-claim (L.Bool b) (L.Bool b) K.Bool (sym (rolls-Bool b)) refl refl
   node-step L.Empty = leaf-claim L.Empty L.Empty K.Seq (sym rolls-Empty) refl refl
   node-step (L.Name name) = name-claim name
   node-step (L.Neg e) =
-      one-claim (L.Neg e.0) (L.Neg (N.expression own visible e.0)) e.0 K.Int K.Int e.1 (λ at. names-roll at (L.Neg e.0)) refl (sym (rolls-Neg (N.expression own visible e.0))) refl
+      one-claim (L.Neg e.0) (L.Neg (N.expression own visible e.0)) e.0 K.Int K.Int e.1
+      (λ at. names-roll at (L.Neg e.0)) refl (sym (rolls-Neg (N.expression own visible e.0))) refl
   node-step (L.Not e) =
-      one-claim (L.Not e.0) (L.Not (N.expression own visible e.0)) e.0 K.Bool K.Bool e.1 (λ at. names-roll at (L.Not e.0)) refl (sym (rolls-Not (N.expression own visible e.0))) refl
+      one-claim (L.Not e.0) (L.Not (N.expression own visible e.0)) e.0 K.Bool K.Bool e.1
+      (λ at. names-roll at (L.Not e.0)) refl (sym (rolls-Not (N.expression own visible e.0))) refl
   node-step (L.Two op l r) = two-claim op l.0 r.0 l.1 r.1
   node-step (L.One fun e) =
-      one-claim (L.One fun e.0) (L.One fun (N.expression own visible e.0)) e.0 K.Seq (T.given_by fun) e.1 (λ at. names-roll at (L.One fun e.0)) refl
-      (sym (rolls-One fun (N.expression own visible e.0))) (ap (λ g. P.where_of K.Seq (P.kind_in k (N.expression own visible e.0)) g) (fun-kind fun))
+      one-claim (L.One fun e.0) (L.One fun (N.expression own visible e.0)) e.0 K.Seq (T.given_by fun) e.1
+      (λ at. names-roll at (L.One fun e.0)) refl
+      (sym (rolls-One fun (N.expression own visible e.0)))
+      (ap (λ g. P.where_of K.Seq (P.kind_in k (N.expression own visible e.0)) g) (fun-kind fun))
 
   expr-step : (y : Expr-F Name ((n : Node Name) × NodeClaim n) ((e : Expr Name) × Claim e)) →
-      Claim (roll-Expr Name (map-Expr Name ((n : Node Name) × NodeClaim n) ((e : Expr Name) × Claim e) (Node Name) (Expr Name) (λ e. e.0) (λ e. e.0) y))
-  expr-step y = expr-claim (roll-Expr Name (map-Expr Name ((n : Node Name) × NodeClaim n) ((e : Expr Name) × Claim e) (Node Name) (Expr Name) (λ e. e.0) (λ e. e.0) y)) y.node.1
+      Claim (roll-Expr Name
+      (map-Expr Name ((n : Node Name) × NodeClaim n) ((e : Expr Name) × Claim e) (Node Name) (Expr Name)
+      (λ e. e.0) (λ e. e.0) y))
+  expr-step y = expr-claim
+      (roll-Expr Name (map-Expr Name ((n : Node Name) × NodeClaim n) ((e : Expr Name) × Claim e) (Node Name)
+      (Expr Name) (λ e. e.0) (λ e. e.0) y)) y.node.1
 
   -- an expression without unknown names, without names that are no values, and without wrong types
   pub has_kind : (e : Expr Name) → Claim e

@@ -7,7 +7,8 @@ use Rattle.seuss_program.specs.declared.tree.Kind.TheVariants as K
 use Rattle.seuss_program.specs.declared.tree.Expr.{Expr}
 use Rattle.seuss_program.specs.declared.tree.Call.{Call}
 use Rattle.seuss_program.specs.declared.tree.Pre.{Pre}
-use Rattle.seuss_program.specs.declared.tree.Statement.{Statement, fold-roll-Statement, map-Statement, roll-Statement, ind-Statement}
+use Rattle.seuss_program.specs.declared.tree.Statement.{Statement, fold-roll-Statement, map-Statement}
+use Rattle.seuss_program.specs.declared.tree.Statement.{roll-Statement, ind-Statement}
 use Rattle.seuss_program.specs.declared.tree.Statement.TheOpen as S
 use Rattle.seuss_program.specs.declared.tree.Statement.TheOpen.{Statement-F}
 use Rattle.seuss_program.specs.declared.tree.Statement.TheShapes.{former-Statement-If-1}
@@ -23,16 +24,20 @@ use Rattle.box_types.specs.declared.scopes.Local.{Local}
 use Rattle.box_types.specs.declared.scopes.Scope.{Scope}
 use Rattle.box_types.specs.Scopes.{meaning_of, method_called, behind, at_head, with_result}
 use Rattle.box_types.specs.Walks as W
-use Rattle.box_types.specs.Walks.{Place, Test, Walked, Walk, Value, Assigned, Takes, Target, Method, LocalName, When, ProcName, CatName, GivenName, GivenCat, VarName, First, Second, HintName, BoxName, BoxCat, BoxGiven}
+use Rattle.box_types.specs.Walks.{Place, Test, Walked, Walk, Value, Assigned, Takes, Target, Method}
+use Rattle.box_types.specs.Walks.{LocalName, When, ProcName, CatName, GivenName, GivenCat, VarName, First}
+use Rattle.box_types.specs.Walks.{Second, HintName, BoxName, BoxCat, BoxGiven}
 use Rattle.call_order.proofs.KeptExpressions.{none-left, none-right}
 
 -- the third has no lines where the first two have none
 abbrev pub NoneToo : List ℕ → List ℕ → List ℕ → Type 0
 NoneToo a b c = a ≡ [] → b ≡ [] → c ≡ []
 
-too-append : (a a' b b' c c' : List ℕ) → NoneToo a b c → NoneToo a' b' c' → NoneToo (a ++ a') (b ++ b') (c ++ c')
+too-append : (a a' b b' c c' : List ℕ) → NoneToo a b c → NoneToo a' b' c' →
+    NoneToo (a ++ a') (b ++ b') (c ++ c')
 too-append a a' b b' c c' h h' ha hb =
-    ap (λ l. l ++ c') (h (none-left a a' ha) (none-left b b' hb)) ∙ h' (none-right a a' ha) (none-right b b' hb)
+    ap (λ l. l ++ c') (h (none-left a a' ha) (none-left b b' hb))
+    ∙ h' (none-right a a' ha) (none-right b b' hb)
 
 too-none : NoneToo [] [] []
 too-none ha hb = refl
@@ -44,40 +49,61 @@ record Joined (a b c : Walked) : Type 0 where
   lines : NoneToo a.lines b.lines c.lines
 
 joined-by : (a b c a' b' c' : Walked) → a ≡ a' → b ≡ b' → c ≡ c' → Joined a' b' c' → Joined a b c
-joined-by a b c a' b' c' ha hb hc j = subst (λ x. Joined x b c) (sym ha) (subst (λ x. Joined a' x c) (sym hb) (subst (λ x. Joined a' b' x) (sym hc) j))
+joined-by a b c a' b' c' ha hb hc j = subst (λ x. Joined x b c) (sym ha)
+    (subst (λ x. Joined a' x c) (sym hb) (subst (λ x. Joined a' b' x) (sym hc) j))
 
-leaf : (a b c : List ℕ) (scope : Scope) → NoneToo a b c → Joined (record { lines = a; scope = scope }) (record { lines = b; scope = scope }) (record { lines = c; scope = scope })
+leaf : (a b c : List ℕ) (scope : Scope) → NoneToo a b c →
+    Joined (record { lines = a; scope = scope }) (record { lines = b; scope = scope })
+    (record { lines = c; scope = scope })
 leaf a b c scope h = record { second = refl; third = refl; lines = h }
 
 -- two walks one after the other
 next-walk : Walked → Walk → Walked
-next-walk first rest = record { lines = first.lines ++ (rest first.scope).lines; scope = (rest first.scope).scope }
+next-walk first rest = record
+    { lines = first.lines ++ (rest first.scope).lines; scope = (rest first.scope).scope }
 
-joined-next : (a b c : Walked) (f g h : Walk) → Joined a b c → ((s : Scope) → Joined (f s) (g s) (h s)) → Joined (next-walk a f) (next-walk b g) (next-walk c h)
+joined-next : (a b c : Walked) (f g h : Walk) → Joined a b c → ((s : Scope) → Joined (f s) (g s) (h s)) →
+    Joined (next-walk a f) (next-walk b g) (next-walk c h)
 unfolding next-walk
 joined-next a b c f g h j k =
     let r : Joined (f a.scope) (g b.scope) (h c.scope) =
-    subst (λ s. Joined (f a.scope) (g s) (h c.scope)) (sym j.second) (subst (λ s. Joined (f a.scope) (g a.scope) (h s)) (sym j.third) (k a.scope)) in
-    record { second = r.second; third = r.third; lines = too-append a.lines _ b.lines _ c.lines _ j.lines r.lines }
+    subst (λ s. Joined (f a.scope) (g s) (h c.scope)) (sym j.second)
+    (subst (λ s. Joined (f a.scope) (g a.scope) (h s)) (sym j.third) (k a.scope)) in
+    record {
+      second = r.second;
+      third = r.third;
+      lines =
+          too-append a.lines _ b.lines _ c.lines _ j.lines r.lines;
+    }
 
-joined-closed : (s : Scope) (a b c : Walked) → Joined a b c → Joined (W.closed s a) (W.closed s b) (W.closed s c)
-joined-closed s a b c j = record { second = ap (behind s) j.second; third = ap (behind s) j.third; lines = j.lines }
+joined-closed : (s : Scope) (a b c : Walked) → Joined a b c →
+    Joined (W.closed s a) (W.closed s b) (W.closed s c)
+joined-closed s a b c j = record
+    { second = ap (behind s) j.second; third = ap (behind s) j.third; lines = j.lines }
 
 joined-lines : (l m n : List ℕ) (a b c : Walked) → NoneToo l m n → Joined a b c →
-    Joined (record { lines = l ++ a.lines; scope = a.scope }) (record { lines = m ++ b.lines; scope = b.scope }) (record { lines = n ++ c.lines; scope = c.scope })
-joined-lines l m n a b c h j = record { second = j.second; third = j.third; lines = too-append l _ m _ n _ h j.lines }
+    Joined (record { lines = l ++ a.lines; scope = a.scope })
+    (record { lines = m ++ b.lines; scope = b.scope })
+    (record { lines = n ++ c.lines; scope = c.scope })
+joined-lines l m n a b c h j = record
+    { second = j.second; third = j.third; lines = too-append l _ m _ n _ h j.lines }
 
 -- items one after the other
-joined-walked : {X : Type 0} (f g h : ℕ → X → Walk) → ((n : ℕ) (x : X) (s : Scope) → Joined (f n x s) (g n x s) (h n x s)) → (n : ℕ) (xs : List X) (s : Scope) →
+joined-walked : {X : Type 0} (f g h : ℕ → X → Walk) →
+    ((n : ℕ) (x : X) (s : Scope) → Joined (f n x s) (g n x s) (h n x s)) →
+    (n : ℕ) (xs : List X) (s : Scope) →
     Joined (W.walked f n xs s) (W.walked g n xs s) (W.walked h n xs s)
 unfolding next-walk
 joined-walked f g h j n [] s = leaf [] [] [] s too-none
-joined-walked f g h j n (x ∷ xs) s = joined-next (f n x s) (g n x s) (h n x s) (W.walked f (n + 1) xs) (W.walked g (n + 1) xs) (W.walked h (n + 1) xs) (j n x s) (joined-walked f g h j (n + 1) xs)
+joined-walked f g h j n (x ∷ xs) s = joined-next (f n x s) (g n x s) (h n x s) (W.walked f (n + 1) xs)
+    (W.walked g (n + 1) xs) (W.walked h (n + 1) xs) (j n x s) (joined-walked f g h j (n + 1) xs)
 
-too-numbered : {X : Type 0} (f g h : ℕ → X → List ℕ) → ((n : ℕ) (x : X) → NoneToo (f n x) (g n x) (h n x)) → (n : ℕ) (xs : List X) →
+too-numbered : {X : Type 0} (f g h : ℕ → X → List ℕ) → ((n : ℕ) (x : X) → NoneToo (f n x) (g n x) (h n x)) →
+    (n : ℕ) (xs : List X) →
     NoneToo (W.numbered f n xs) (W.numbered g n xs) (W.numbered h n xs)
 too-numbered f g h j n [] = too-none
-too-numbered f g h j n (x ∷ xs) = too-append (f n x) _ (g n x) _ (h n x) _ (j n x) (too-numbered f g h j (n + 1) xs)
+too-numbered f g h j n (x ∷ xs) = too-append (f n x) _ (g n x) _ (h n x) _ (j n x)
+    (too-numbered f g h j (n + 1) xs)
 
 module _ (t u : Test) where
   -- both tests
@@ -89,95 +115,140 @@ module _ (t u : Test) where
 
   module _ (cats : List (Cat Name)) where
     module _ (own : Cat Name) where
-      call-too : (visible : List Local) (c : Call Name) → NoneToo (W.call t cats own visible c) (W.call u cats own visible c) (W.call both cats own visible c)
+      call-too : (visible : List Local) (c : Call Name) →
+          NoneToo (W.call t cats own visible c) (W.call u cats own visible c)
+          (W.call both cats own visible c)
       call-too visible c =
-          too-append (t (Target own visible c.target)) _ (u (Target own visible c.target)) _ _ _ (at-place (Target own visible c.target))
-          (too-append (t (Method cats own visible c)) _ (u (Method cats own visible c)) _ _ _ (at-place (Method cats own visible c))
-          (too-numbered (W.argument t cats own visible (W.params_of (method_called cats own visible c))) (W.argument u cats own visible (W.params_of (method_called cats own visible c)))
+          too-append (t (Target own visible c.target)) _ (u (Target own visible c.target)) _ _ _
+          (at-place (Target own visible c.target))
+          (too-append (t (Method cats own visible c)) _ (u (Method cats own visible c)) _ _ _
+          (at-place (Method cats own visible c))
+          (too-numbered (W.argument t cats own visible (W.params_of (method_called cats own visible c)))
+          (W.argument u cats own visible (W.params_of (method_called cats own visible c)))
           (W.argument both cats own visible (W.params_of (method_called cats own visible c)))
-          (λ n e. at-place (Value own visible (W.kind_at (W.params_of (method_called cats own visible c)) n) e)) 0 c.args))
+          (λ n e. at-place (Value own visible (W.kind_at (W.params_of (method_called cats own visible c)) n)
+          e)) 0 c.args))
 
       taken-too : (visible : List Local) (bind : Option Name) (c : Call Name) →
-          NoneToo (W.taken t cats own visible bind c) (W.taken u cats own visible bind c) (W.taken both cats own visible bind c)
+          NoneToo (W.taken t cats own visible bind c) (W.taken u cats own visible bind c)
+          (W.taken both cats own visible bind c)
       taken-too visible None c = too-none
       taken-too visible (Some name) c =
-          too-append (t (Assigned own visible name)) _ (u (Assigned own visible name)) _ _ _ (at-place (Assigned own visible name))
+          too-append (t (Assigned own visible name)) _ (u (Assigned own visible name)) _ _ _
+          (at-place (Assigned own visible name))
           (at-place (Takes cats own visible (W.kind_of (meaning_of own visible name)) name c))
 
       module _ (number : ℕ) where
         abbrev StatementJoins : Statement Name → Type 0
-        StatementJoins s = (w : Scope) → Joined (W.statement t cats own number s w) (W.statement u cats own number s w) (W.statement both cats own number s w)
+        StatementJoins s = (w : Scope) → Joined (W.statement t cats own number s w)
+            (W.statement u cats own number s w) (W.statement both cats own number s w)
 
         abbrev BodyJoins : List (Statement Name) → Type 0
-        BodyJoins ss = (w : Scope) → Joined (W.body t cats own number ss w) (W.body u cats own number ss w) (W.body both cats own number ss w)
+        BodyJoins ss = (w : Scope) → Joined (W.body t cats own number ss w) (W.body u cats own number ss w)
+            (W.body both cats own number ss w)
 
         body-joins : (ss : List (Statement Name)) → AllByRecursion StatementJoins ss → BodyJoins ss
         unfolding next-walk
         body-joins [] all w = leaf [] [] [] w too-none
         body-joins (s ∷ ss) all w =
-            joined-next (W.statement t cats own number s w) (W.statement u cats own number s w) (W.statement both cats own number s w)
-            (W.body t cats own number ss) (W.body u cats own number ss) (W.body both cats own number ss) (all.0 w) (body-joins ss all.1)
+            joined-next (W.statement t cats own number s w) (W.statement u cats own number s w)
+            (W.statement both cats own number s w)
+            (W.body t cats own number ss) (W.body u cats own number ss) (W.body both cats own number ss)
+            (all.0 w) (body-joins ss all.1)
 
         abbrev each : {A : Type 0} → (Statement Name → A) → List (Statement Name) → List A
         each {A} f ss = (former-Statement-If-1 Name).map (Statement Name) A f ss
 
         walk-roll : (test : Test) (d : Statement-F Name (Statement Name)) (w : Scope) →
             W.statement test cats own number (roll-Statement Name d) w
-            ≡ W.statement_step test cats own number (map-Statement Name (Statement Name) Walk (W.statement test cats own number) d) w
+            ≡ W.statement_step test cats own number
+            (map-Statement Name (Statement Name) Walk (W.statement test cats own number) d) w
         unfolding W.statement
-        walk-roll test d w = ap (λ (m : Walk). m w) (fold-roll-Statement Name Walk (W.statement_step test cats own number) d)
+        walk-roll test d w = ap (λ (m : Walk). m w)
+            (fold-roll-Statement Name Walk (W.statement_step test cats own number) d)
 
-        walks-each : (test : Test) (ss : List (Statement Name)) (w : Scope) → W.in_turn (each (W.statement test cats own number) ss) w ≡ W.body test cats own number ss w
+        walks-each : (test : Test) (ss : List (Statement Name)) (w : Scope) →
+            W.in_turn (each (W.statement test cats own number) ss) w ≡ W.body test cats own number ss w
         walks-each test [] w = refl
         walks-each test (s ∷ ss) w =
-            ap (λ (r : Walked). record { lines = (W.statement test cats own number s w).lines ++ r.lines; scope = r.scope }) (walks-each test ss (W.statement test cats own number s w).scope)
+            ap (λ (r : Walked). record
+            { lines = (W.statement test cats own number s w).lines ++ r.lines; scope = r.scope })
+            (walks-each test ss (W.statement test cats own number s w).scope)
 
         -- a layer of the three walks
         layer-joins : (d : Statement-F Name (Statement Name)) →
-            ((w : Scope) → Joined (W.statement_step t cats own number (map-Statement Name (Statement Name) Walk (W.statement t cats own number) d) w)
-            (W.statement_step u cats own number (map-Statement Name (Statement Name) Walk (W.statement u cats own number) d) w)
-            (W.statement_step both cats own number (map-Statement Name (Statement Name) Walk (W.statement both cats own number) d) w)) → StatementJoins (roll-Statement Name d)
-        layer-joins d j w = joined-by _ _ _ _ _ _ (walk-roll t d w) (walk-roll u d w) (walk-roll both d w) (j w)
+            ((w : Scope) → Joined
+            (W.statement_step t cats own number
+            (map-Statement Name (Statement Name) Walk (W.statement t cats own number) d) w)
+            (W.statement_step u cats own number
+            (map-Statement Name (Statement Name) Walk (W.statement u cats own number) d) w)
+            (W.statement_step both cats own number
+            (map-Statement Name (Statement Name) Walk (W.statement both cats own number) d) w)) →
+            StatementJoins (roll-Statement Name d)
+        layer-joins d j w = joined-by _ _ _ _ _ _ (walk-roll t d w) (walk-roll u d w) (walk-roll both d w)
+            (j w)
 
         turn-joins : (ss : List (Statement Name)) → BodyJoins ss → (w : Scope) →
-            Joined (W.in_turn (each (W.statement t cats own number) ss) w) (W.in_turn (each (W.statement u cats own number) ss) w) (W.in_turn (each (W.statement both cats own number) ss) w)
-        turn-joins ss j w = joined-by _ _ _ _ _ _ (walks-each t ss w) (walks-each u ss w) (walks-each both ss w) (j w)
+            Joined (W.in_turn (each (W.statement t cats own number) ss) w)
+            (W.in_turn (each (W.statement u cats own number) ss) w)
+            (W.in_turn (each (W.statement both cats own number) ss) w)
+        turn-joins ss j w = joined-by _ _ _ _ _ _ (walks-each t ss w) (walks-each u ss w)
+            (walks-each both ss w) (j w)
 
-        if-joins : (cond : Expr Name) (holds fails : List (Statement Name)) → BodyJoins holds → BodyJoins fails → StatementJoins (roll-Statement Name (S.If cond holds fails))
+        if-joins : (cond : Expr Name) (holds fails : List (Statement Name)) → BodyJoins holds →
+            BodyJoins fails → StatementJoins (roll-Statement Name (S.If cond holds fails))
         unfolding next-walk
         if-joins cond holds fails jh jf = layer-joins (S.If cond holds fails) (λ w.
-            joined-lines (t (Value own w.visible (Some K.Bool) cond)) (u (Value own w.visible (Some K.Bool) cond)) (both (Value own w.visible (Some K.Bool) cond)) _ _ _
+            joined-lines (t (Value own w.visible (Some K.Bool) cond))
+            (u (Value own w.visible (Some K.Bool) cond)) (both (Value own w.visible (Some K.Bool) cond))
+            _ _ _
             (at-place (Value own w.visible (Some K.Bool) cond))
-            (joined-next (W.closed w (W.in_turn (each (W.statement t cats own number) holds) w)) (W.closed w (W.in_turn (each (W.statement u cats own number) holds) w))
+            (joined-next (W.closed w (W.in_turn (each (W.statement t cats own number) holds) w))
+            (W.closed w (W.in_turn (each (W.statement u cats own number) holds) w))
             (W.closed w (W.in_turn (each (W.statement both cats own number) holds) w))
-            (λ s. W.closed w (W.in_turn (each (W.statement t cats own number) fails) s)) (λ s. W.closed w (W.in_turn (each (W.statement u cats own number) fails) s))
+            (λ s. W.closed w (W.in_turn (each (W.statement t cats own number) fails) s))
+            (λ s. W.closed w (W.in_turn (each (W.statement u cats own number) fails) s))
             (λ s. W.closed w (W.in_turn (each (W.statement both cats own number) fails) s))
-            (joined-closed w _ _ _ (turn-joins holds jh w)) (λ s. joined-closed w _ _ _ (turn-joins fails jf s))))
+            (joined-closed w _ _ _ (turn-joins holds jh w))
+            (λ s. joined-closed w _ _ _ (turn-joins fails jf s))))
 
-        while-joins : (cond : Expr Name) (turn : List (Statement Name)) → BodyJoins turn → StatementJoins (roll-Statement Name (S.While cond turn))
+        while-joins : (cond : Expr Name) (turn : List (Statement Name)) → BodyJoins turn →
+            StatementJoins (roll-Statement Name (S.While cond turn))
         while-joins cond turn jt = layer-joins (S.While cond turn) (λ w.
-            joined-lines (t (Value own w.visible (Some K.Bool) cond)) (u (Value own w.visible (Some K.Bool) cond)) (both (Value own w.visible (Some K.Bool) cond)) _ _ _
-            (at-place (Value own w.visible (Some K.Bool) cond)) (joined-closed w _ _ _ (turn-joins turn jt w)))
+            joined-lines (t (Value own w.visible (Some K.Bool) cond))
+            (u (Value own w.visible (Some K.Bool) cond)) (both (Value own w.visible (Some K.Bool) cond))
+            _ _ _
+            (at-place (Value own w.visible (Some K.Bool) cond))
+            (joined-closed w _ _ _ (turn-joins turn jt w)))
 
         each-joins : (ys : List ((s : Statement Name) × StatementJoins s)) →
-            AllByRecursion StatementJoins ((former-Statement-If-1 Name).map ((s : Statement Name) × StatementJoins s) (Statement Name) (λ y. y.0) ys)
+            AllByRecursion StatementJoins
+            ((former-Statement-If-1 Name).map ((s : Statement Name) × StatementJoins s) (Statement Name)
+            (λ y. y.0) ys)
         each-joins [] = tt
         each-joins (y ∷ ys) = (y.1, each-joins ys)
 
         step-joins : (y : Statement-F Name ((s : Statement Name) × StatementJoins s)) →
-            StatementJoins (roll-Statement Name (map-Statement Name ((s : Statement Name) × StatementJoins s) (Statement Name) (λ y. y.0) y))
+            StatementJoins (roll-Statement Name
+            (map-Statement Name ((s : Statement Name) × StatementJoins s) (Statement Name) (λ y. y.0)
+            y))
         step-joins (S.Let name kind e) = layer-joins (S.Let name kind e) (λ w. leaf _ _ _ _
-            (too-append (t (LocalName own number w name)) _ (u (LocalName own number w name)) _ _ _ (at-place (LocalName own number w name)) (at-place (Value own w.visible (Some kind) e))))
+            (too-append (t (LocalName own number w name)) _ (u (LocalName own number w name)) _ _ _
+            (at-place (LocalName own number w name)) (at-place (Value own w.visible (Some kind) e))))
         step-joins (S.Assign name e) = layer-joins (S.Assign name e) (λ w. leaf _ _ _ _
-            (too-append (t (Assigned own w.visible name)) _ (u (Assigned own w.visible name)) _ _ _ (at-place (Assigned own w.visible name))
+            (too-append (t (Assigned own w.visible name)) _ (u (Assigned own w.visible name)) _ _ _
+            (at-place (Assigned own w.visible name))
             (at-place (Value own w.visible (W.kind_of (meaning_of own w.visible name)) e))))
         step-joins (S.Call bind c) = layer-joins (S.Call bind c) (λ w. leaf _ _ _ _
-            (too-append (W.taken t cats own w.visible bind c) _ (W.taken u cats own w.visible bind c) _ _ _ (taken-too w.visible bind c) (call-too w.visible c)))
-        step-joins (S.If cond holds fails) = if-joins cond _ _ (body-joins _ (each-joins holds)) (body-joins _ (each-joins fails))
+            (too-append (W.taken t cats own w.visible bind c) _ (W.taken u cats own w.visible bind c) _ _ _
+            (taken-too w.visible bind c) (call-too w.visible c)))
+        step-joins (S.If cond holds fails) = if-joins cond _ _ (body-joins _ (each-joins holds))
+            (body-joins _ (each-joins fails))
         step-joins (S.While cond turn) = while-joins cond _ (body-joins _ (each-joins turn))
 
         statement-joins : (s : Statement Name) → StatementJoins s
-        statement-joins = ind-Statement Name StatementJoins (λ x y is. subst (λ d. StatementJoins (roll-Statement Name d)) is (step-joins y))
+        statement-joins = ind-Statement Name StatementJoins
+            (λ x y is. subst (λ d. StatementJoins (roll-Statement Name d)) is (step-joins y))
 
         every-joins : (ss : List (Statement Name)) → AllByRecursion StatementJoins ss
         every-joins [] = tt
@@ -186,76 +257,129 @@ module _ (t u : Test) where
         bodies-join : (ss : List (Statement Name)) → BodyJoins ss
         bodies-join ss = body-joins ss (every-joins ss)
 
-        bound-joins : (bind : Option Name) (c : Call Name) (w : Scope) → Joined (W.bound t cats own number bind c w) (W.bound u cats own number bind c w) (W.bound both cats own number bind c w)
+        bound-joins : (bind : Option Name) (c : Call Name) (w : Scope) →
+            Joined (W.bound t cats own number bind c w) (W.bound u cats own number bind c w)
+            (W.bound both cats own number bind c w)
         bound-joins None c w = leaf _ _ _ _ (call-too w.visible c)
         bound-joins (Some name) c w = leaf _ _ _ _
-            (too-append (t (LocalName own number w name)) _ (u (LocalName own number w name)) _ _ _ (at-place (LocalName own number w name))
-            (too-append (t (Takes cats own w.visible (Some K.Int) name c)) _ (u (Takes cats own w.visible (Some K.Int) name c)) _ _ _ (at-place (Takes cats own w.visible (Some K.Int) name c))
+            (too-append (t (LocalName own number w name)) _ (u (LocalName own number w name)) _ _ _
+            (at-place (LocalName own number w name))
+            (too-append (t (Takes cats own w.visible (Some K.Int) name c)) _
+            (u (Takes cats own w.visible (Some K.Int) name c)) _ _ _
+            (at-place (Takes cats own w.visible (Some K.Int) name c))
             (call-too w.visible c)))
 
-        early-joins : (pre : Option (Pre Name)) (w : Scope) → Joined (W.early t cats own number pre w) (W.early u cats own number pre w) (W.early both cats own number pre w)
+        early-joins : (pre : Option (Pre Name)) (w : Scope) →
+            Joined (W.early t cats own number pre w) (W.early u cats own number pre w)
+            (W.early both cats own number pre w)
         early-joins None w = leaf [] [] [] w too-none
         early-joins (Some pre) w = bound-joins pre.bind pre.call w
 
-        three-joins : (l m n : List ℕ) (f g h f' g' h' : Walk) → NoneToo l m n → ((s : Scope) → Joined (f s) (g s) (h s)) → ((s : Scope) → Joined (f' s) (g' s) (h' s)) → (w : Scope) →
+        three-joins : (l m n : List ℕ) (f g h f' g' h' : Walk) → NoneToo l m n →
+            ((s : Scope) → Joined (f s) (g s) (h s)) → ((s : Scope) → Joined (f' s) (g' s) (h' s)) →
+            (w : Scope) →
             Joined (W.three l f f' w) (W.three m g g' w) (W.three n h h' w)
         unfolding next-walk
-        three-joins l m n f g h f' g' h' too j j' w = joined-lines l m n _ _ _ too (joined-next (f w) (g w) (h w) f' g' h' (j w) j')
+        three-joins l m n f g h f' g' h' too j j' w =
+            joined-lines l m n _ _ _ too (joined-next (f w) (g w) (h w) f' g' h' (j w) j')
 
         alternative-joins : (n : ℕ) (a : Alternative Name) (w : Scope) →
-            Joined (W.alternative t cats own number n a w) (W.alternative u cats own number n a w) (W.alternative both cats own number n a w)
+            Joined (W.alternative t cats own number n a w) (W.alternative u cats own number n a w)
+            (W.alternative both cats own number n a w)
         alternative-joins n a w = joined-closed w _ _ _
-            (three-joins (W.head t cats own number w.visible n a) (W.head u cats own number w.visible n a) (W.head both cats own number w.visible n a)
-            (W.early t cats own number a.pre) (W.early u cats own number a.pre) (W.early both cats own number a.pre)
-            (W.body t cats own number a.body) (W.body u cats own number a.body) (W.body both cats own number a.body)
-            (too-append (t (When n a.line)) _ (u (When n a.line)) _ _ _ (at-place (When n a.line)) (at-place (Value own w.visible (Some K.Bool) a.cond)))
+            (three-joins (W.head t cats own number w.visible n a) (W.head u cats own number w.visible n a)
+            (W.head both cats own number w.visible n a)
+            (W.early t cats own number a.pre) (W.early u cats own number a.pre)
+            (W.early both cats own number a.pre)
+            (W.body t cats own number a.body) (W.body u cats own number a.body)
+            (W.body both cats own number a.body)
+            (too-append (t (When n a.line)) _ (u (When n a.line)) _ _ _ (at-place (When n a.line))
+            (at-place (Value own w.visible (Some K.Bool) a.cond)))
             (early-joins a.pre) (bodies-join a.body) w)
 
-        form-joins : (f : Form Name) (w : Scope) → Joined (W.form t cats own number f w) (W.form u cats own number f w) (W.form both cats own number f w)
+        form-joins : (f : Form Name) (w : Scope) →
+            Joined (W.form t cats own number f w) (W.form u cats own number f w)
+            (W.form both cats own number f w)
         form-joins (F.Total ss) w = bodies-join ss w
-        form-joins (F.Partial alts) w = joined-walked (W.alternative t cats own number) (W.alternative u cats own number) (W.alternative both cats own number) alternative-joins 0 alts w
-        form-joins (F.Action alts) w = joined-walked (W.alternative t cats own number) (W.alternative u cats own number) (W.alternative both cats own number) alternative-joins 0 alts w
+        form-joins (F.Partial alts) w = joined-walked (W.alternative t cats own number)
+            (W.alternative u cats own number) (W.alternative both cats own number) alternative-joins 0 alts
+            w
+        form-joins (F.Action alts) w = joined-walked (W.alternative t cats own number)
+            (W.alternative u cats own number) (W.alternative both cats own number) alternative-joins 0 alts
+            w
 
-        signature-joins : (q : Proc Name) (w : Scope) → Joined (W.signature t cats own number q w) (W.signature u cats own number q w) (W.signature both cats own number q w)
+        signature-joins : (q : Proc Name) (w : Scope) →
+            Joined (W.signature t cats own number q w) (W.signature u cats own number q w)
+            (W.signature both cats own number q w)
         signature-joins q w =
-            let j = joined-walked (λ (n : ℕ). W.param t cats own number) (λ (n : ℕ). W.param u cats own number) (λ (n : ℕ). W.param both cats own number)
-            (λ n p s. leaf _ _ _ _ (at-place (LocalName own number s p.name))) 0 q.params (at_head q w.earlier) in
-            record { second = ap (with_result q) j.second; third = ap (with_result q) j.third; lines = j.lines }
+            let j = joined-walked (λ (n : ℕ). W.param t cats own number)
+            (λ (n : ℕ). W.param u cats own number) (λ (n : ℕ). W.param both cats own number)
+            (λ n p s. leaf _ _ _ _ (at-place (LocalName own number s p.name))) 0 q.params
+            (at_head q w.earlier) in
+            record {
+              second = ap (with_result q) j.second;
+              third = ap (with_result q) j.third;
+              lines =
+                  j.lines;
+            }
 
-      procedure-joins : (n : ℕ) (q : Proc Name) (w : Scope) → Joined (W.procedure t cats own n q w) (W.procedure u cats own n q w) (W.procedure both cats own n q w)
-      procedure-joins n q w = three-joins n (t (ProcName own n q w.earlier)) (u (ProcName own n q w.earlier)) (both (ProcName own n q w.earlier))
+      procedure-joins : (n : ℕ) (q : Proc Name) (w : Scope) →
+          Joined (W.procedure t cats own n q w) (W.procedure u cats own n q w)
+          (W.procedure both cats own n q w)
+      procedure-joins n q w = three-joins n (t (ProcName own n q w.earlier))
+          (u (ProcName own n q w.earlier)) (both (ProcName own n q w.earlier))
           (W.signature t cats own n q) (W.signature u cats own n q) (W.signature both cats own n q)
-          (W.form t cats own n q.form) (W.form u cats own n q.form) (W.form both cats own n q.form) (at-place (ProcName own n q w.earlier)) (signature-joins n q) (form-joins n q.form) w
+          (W.form t cats own n q.form) (W.form u cats own n q.form) (W.form both cats own n q.form)
+          (at-place (ProcName own n q w.earlier)) (signature-joins n q) (form-joins n q.form) w
 
-      procedures-too : NoneToo (W.procedures t cats own) (W.procedures u cats own) (W.procedures both cats own)
-      procedures-too = (joined-walked (W.procedure t cats own) (W.procedure u cats own) (W.procedure both cats own) procedure-joins 0 own.procs (record { visible = []; next = 0; earlier = [] })).lines
+      procedures-too : NoneToo (W.procedures t cats own) (W.procedures u cats own)
+          (W.procedures both cats own)
+      procedures-too = (joined-walked (W.procedure t cats own) (W.procedure u cats own)
+          (W.procedure both cats own) procedure-joins 0 own.procs
+          (record { visible = []; next = 0; earlier = [] })).lines
 
-      semi-too : (n : ℕ) (s : Semi Name) → NoneToo (W.semi t cats own n s) (W.semi u cats own n s) (W.semi both cats own n s)
+      semi-too : (n : ℕ) (s : Semi Name) → NoneToo (W.semi t cats own n s) (W.semi u cats own n s)
+          (W.semi both cats own n s)
       semi-too n s =
           too-append (t (First own n s)) _ (u (First own n s)) _ _ _ (at-place (First own n s))
-          (too-append (t (Second own s.second)) _ (u (Second own s.second)) _ _ _ (at-place (Second own s.second))
-          (too-numbered (W.hint t cats own s) (W.hint u cats own s) (W.hint both cats own s) (λ m h. at-place (HintName own s m h)) 0 s.hints))
+          (too-append (t (Second own s.second)) _ (u (Second own s.second)) _ _ _
+          (at-place (Second own s.second))
+          (too-numbered (W.hint t cats own s) (W.hint u cats own s) (W.hint both cats own s)
+          (λ m h. at-place (HintName own s m h)) 0 s.hints))
 
-    cat-too : (n : ℕ) (own : Cat Name) → NoneToo (W.cat t cats n own) (W.cat u cats n own) (W.cat both cats n own)
+    cat-too : (n : ℕ) (own : Cat Name) → NoneToo (W.cat t cats n own) (W.cat u cats n own)
+        (W.cat both cats n own)
     cat-too n own =
-        too-append (t (CatName cats n own.name)) _ (u (CatName cats n own.name)) _ _ _ (at-place (CatName cats n own.name))
-        (too-append (W.numbered (W.given t cats own) 0 own.given) _ (W.numbered (W.given u cats own) 0 own.given) _ _ _
+        too-append (t (CatName cats n own.name)) _ (u (CatName cats n own.name)) _ _ _
+        (at-place (CatName cats n own.name))
+        (too-append (W.numbered (W.given t cats own) 0 own.given) _
+        (W.numbered (W.given u cats own) 0 own.given) _ _ _
         (too-numbered (W.given t cats own) (W.given u cats own) (W.given both cats own)
-        (λ m g. too-append (t (GivenName own m g.name)) _ (u (GivenName own m g.name)) _ _ _ (at-place (GivenName own m g.name)) (at-place (GivenCat cats g.cat))) 0 own.given)
-        (too-append (W.numbered (W.variable t cats own) 0 own.vars) _ (W.numbered (W.variable u cats own) 0 own.vars) _ _ _
-        (too-numbered (W.variable t cats own) (W.variable u cats own) (W.variable both cats own) (λ m v. at-place (VarName own m v.name)) 0 own.vars)
+        (λ m g. too-append (t (GivenName own m g.name)) _ (u (GivenName own m g.name)) _ _ _
+        (at-place (GivenName own m g.name)) (at-place (GivenCat cats g.cat))) 0 own.given)
+        (too-append (W.numbered (W.variable t cats own) 0 own.vars) _
+        (W.numbered (W.variable u cats own) 0 own.vars) _ _ _
+        (too-numbered (W.variable t cats own) (W.variable u cats own) (W.variable both cats own)
+        (λ m v. at-place (VarName own m v.name)) 0 own.vars)
         (too-append (W.procedures t cats own) _ (W.procedures u cats own) _ _ _ (procedures-too own)
-        (too-numbered (W.semi t cats own) (W.semi u cats own) (W.semi both cats own) (semi-too own) 0 own.semis))))
+        (too-numbered (W.semi t cats own) (W.semi u cats own) (W.semi both cats own) (semi-too own) 0
+        own.semis))))
 
-    box-too : (boxes : List BoxDecl) (n : ℕ) (b : BoxDecl) → NoneToo (W.box t cats boxes n b) (W.box u cats boxes n b) (W.box both cats boxes n b)
+    box-too : (boxes : List BoxDecl) (n : ℕ) (b : BoxDecl) →
+        NoneToo (W.box t cats boxes n b) (W.box u cats boxes n b) (W.box both cats boxes n b)
     box-too boxes n b =
-        too-append (t (BoxName cats boxes n b)) _ (u (BoxName cats boxes n b)) _ _ _ (at-place (BoxName cats boxes n b))
+        too-append (t (BoxName cats boxes n b)) _ (u (BoxName cats boxes n b)) _ _ _
+        (at-place (BoxName cats boxes n b))
         (too-append (t (BoxCat cats b)) _ (u (BoxCat cats b)) _ _ _ (at-place (BoxCat cats b))
-        (too-numbered (W.box_given t cats boxes b) (W.box_given u cats boxes b) (W.box_given both cats boxes b) (λ m name. at-place (BoxGiven cats boxes b m name)) 0 b.given))
+        (too-numbered (W.box_given t cats boxes b) (W.box_given u cats boxes b)
+        (W.box_given both cats boxes b) (λ m name. at-place (BoxGiven cats boxes b m name)) 0 b.given))
 
   -- what neither test finds in a text both don't
   pub found_join : (tree : Tree) → W.found t tree ≡ [] → W.found u tree ≡ [] → W.found both tree ≡ []
   found_join tree =
-      too-append (W.numbered (W.cat t tree.cats) 0 tree.cats) _ (W.numbered (W.cat u tree.cats) 0 tree.cats) _ _ _
-      (too-numbered (W.cat t tree.cats) (W.cat u tree.cats) (W.cat both tree.cats) (cat-too tree.cats) 0 tree.cats)
-      (too-numbered (W.box t tree.cats tree.boxes) (W.box u tree.cats tree.boxes) (W.box both tree.cats tree.boxes) (box-too tree.cats tree.boxes) 0 tree.boxes)
+      too-append (W.numbered (W.cat t tree.cats) 0 tree.cats) _ (W.numbered (W.cat u tree.cats) 0 tree.cats)
+      _ _ _
+      (too-numbered (W.cat t tree.cats) (W.cat u tree.cats) (W.cat both tree.cats) (cat-too tree.cats) 0
+      tree.cats)
+      (too-numbered (W.box t tree.cats tree.boxes) (W.box u tree.cats tree.boxes)
+      (W.box both tree.cats tree.boxes) (box-too tree.cats tree.boxes) 0 tree.boxes)

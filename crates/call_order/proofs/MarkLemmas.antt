@@ -1,9 +1,11 @@
 -- What marks spread to: after as many passes as there are boxes, exactly what a box is given.
-use Rattle.std.specs.Prelude.{◌≡◌, ℕ, zero, suc, ◌+◌, ◌<◌, ◌≤◌, nat_lt, Bool, true, false, if◌then◌else◌, List, [], ◌∷◌, ◌++◌, length, slice_index_or, slice_set, Contains, All, ◌⊎◌}
+use Rattle.std.specs.Prelude.{◌≡◌, ℕ, zero, suc, ◌+◌, ◌<◌, ◌≤◌, nat_lt, Bool, true, false, if◌then◌else◌}
+use Rattle.std.specs.Prelude.{List, [], ◌∷◌, ◌++◌, length, slice_index_or, slice_set, Contains, All, ◌⊎◌}
 use Rattle.std.proofs.Common.{inl, inr, refl, sym, ap, subst, ◌∙◌, arith}
 use Rattle.seuss_program.specs.declared.program.BoxInfo.{BoxInfo}
 use Rattle.call_order.specs.Cycles.{given_of, IsGivenThrough, IsGiven, IsCyclic, GivesBoxes, HasNoCycle}
-use Rattle.call_order.specs.Marks.{IsMarked, no_marks, marked_with, spread_from, spread_below, spread_times, KnowsGiven, KnowsAllGiven}
+use Rattle.call_order.specs.Marks.{IsMarked, no_marks, marked_with, spread_from, spread_below, spread_times}
+use Rattle.call_order.specs.Marks.{KnowsGiven, KnowsAllGiven}
 
 -- how many boxes are marked
 pub marked : List Bool → ℕ
@@ -53,14 +55,17 @@ among-cons : (g : ℕ) (gs : List ℕ) (k : ℕ) → Contains (g ∷ gs) k → (
 among-cons g gs k (zero, below, is) = inl is
 among-cons g gs k (suc i, below, is) = inr (i, omega (arith, below), is)
 
-with-covers : (gs : List ℕ) (ms : List Bool) (k : ℕ) → Contains gs k → k < length ms → IsMarked (marked_with gs ms) k
+with-covers : (gs : List ℕ) (ms : List Bool) (k : ℕ) → Contains gs k → k < length ms →
+    IsMarked (marked_with gs ms) k
 with-covers [] ms k h below = absurd (omega (arith, h.1))
 with-covers (g ∷ gs) ms k h below = elim (among-cons g gs k h) [
-  | inl e ↦ with-keeps gs (slice_set ms g true) k (subst (λ j. IsMarked (slice_set ms j true) k) (sym e) (set-here ms k below))
+  | inl e ↦ with-keeps gs (slice_set ms g true) k
+      (subst (λ j. IsMarked (slice_set ms j true) k) (sym e) (set-here ms k below))
   | inr c ↦ with-covers gs (slice_set ms g true) k c (subst (λ n. k < n) (sym (set-length ms g)) below)
 ]
 
-with-only : (gs : List ℕ) (ms : List Bool) (k : ℕ) → IsMarked (marked_with gs ms) k → IsMarked ms k ⊎ Contains gs k
+with-only : (gs : List ℕ) (ms : List Bool) (k : ℕ) → IsMarked (marked_with gs ms) k →
+    IsMarked ms k ⊎ Contains gs k
 with-only [] ms k h = inl h
 with-only (g ∷ gs) ms k h = elim (with-only gs (slice_set ms g true) k h) [
   | inl a ↦ elim (set-only ms g k a) [ inl b ↦ inl b | inr e ↦ inr (0, omega arith, sym e) ]
@@ -93,18 +98,21 @@ unfolding marked Has
 marked-more [] [] e h = inl refl
 marked-more [] (n ∷ ns) e h = absurd (omega (arith, e))
 marked-more (m ∷ ms) [] e h = absurd (omega (arith, e))
-marked-more (true ∷ ms) (true ∷ ns) e h = elim (marked-more ms ns (omega (arith, e)) (tail-has true true ms ns h)) [
-  | inl same ↦ inl (ap (λ l. true ∷ l) same)
-  | inr less ↦ inr (omega (arith, less))
-]
-marked-more (false ∷ ms) (false ∷ ns) e h = elim (marked-more ms ns (omega (arith, e)) (tail-has false false ms ns h)) [
-  | inl same ↦ inl (ap (λ l. false ∷ l) same)
-  | inr less ↦ inr (omega (arith, less))
-]
-marked-more (false ∷ ms) (true ∷ ns) e h = elim (marked-more ms ns (omega (arith, e)) (tail-has false true ms ns h)) [
-  | inl same ↦ let c : marked ms ≡ marked ns = ap marked same in inr (omega (arith, c))
-  | inr less ↦ inr (omega (arith, less))
-]
+marked-more (true ∷ ms) (true ∷ ns) e h = elim
+    (marked-more ms ns (omega (arith, e)) (tail-has true true ms ns h)) [
+      | inl same ↦ inl (ap (λ l. true ∷ l) same)
+      | inr less ↦ inr (omega (arith, less))
+    ]
+marked-more (false ∷ ms) (false ∷ ns) e h = elim
+    (marked-more ms ns (omega (arith, e)) (tail-has false false ms ns h)) [
+      | inl same ↦ inl (ap (λ l. false ∷ l) same)
+      | inr less ↦ inr (omega (arith, less))
+    ]
+marked-more (false ∷ ms) (true ∷ ns) e h = elim
+    (marked-more ms ns (omega (arith, e)) (tail-has false true ms ns h)) [
+      | inl same ↦ let c : marked ms ≡ marked ns = ap marked same in inr (omega (arith, c))
+      | inr less ↦ inr (omega (arith, less))
+    ]
 marked-more (true ∷ ms) (false ∷ ns) e h = let bad : false ≡ true = h 0 refl in absurd (cc)
 
 -- a marked place is there
@@ -133,10 +141,12 @@ module _ (boxes : List BoxInfo) where
   from-is b ms = refl
 
   from-keeps : (b : ℕ) (ms : List Bool) (k : ℕ) → IsMarked ms k → IsMarked (spread_from boxes b ms) k
-  from-keeps b ms k h = subst (λ l. IsMarked l k) (sym (from-is b ms)) (one-keeps (slice_index_or ms b false) b ms k h)
+  from-keeps b ms k h = subst (λ l. IsMarked l k) (sym (from-is b ms))
+      (one-keeps (slice_index_or ms b false) b ms k h)
 
   pub from-length : (b : ℕ) (ms : List Bool) → length (spread_from boxes b ms) ≡ length ms
-  from-length b ms = ap (λ (l : List Bool). length l) (from-is b ms) ∙ one-length (slice_index_or ms b false) b ms
+  from-length b ms = ap (λ (l : List Bool). length l) (from-is b ms)
+      ∙ one-length (slice_index_or ms b false) b ms
 
   below-keeps : (n : ℕ) (ms : List Bool) (k : ℕ) → IsMarked ms k → IsMarked (spread_below boxes n ms) k
   below-keeps zero ms k h = h
@@ -147,15 +157,19 @@ module _ (boxes : List BoxInfo) where
   below-length (suc n) ms = from-length n (spread_below boxes n ms) ∙ below-length n ms
 
   -- what a marked box is given is marked
-  from-covers : (b g : ℕ) (ms : List Bool) → IsMarked ms b → Contains (given_of boxes b) g → g < length ms → IsMarked (spread_from boxes b ms) g
+  from-covers : (b g : ℕ) (ms : List Bool) → IsMarked ms b → Contains (given_of boxes b) g → g < length ms →
+      IsMarked (spread_from boxes b ms) g
   from-covers b g ms h c below =
-      subst (λ (t : Bool). IsMarked (if t then marked_with (given_of boxes b) ms else ms) g) (sym h) (with-covers (given_of boxes b) ms g c below)
+      subst (λ (t : Bool). IsMarked (if t then marked_with (given_of boxes b) ms else ms) g) (sym h)
+      (with-covers (given_of boxes b) ms g c below)
 
-  below-covers : (n j g : ℕ) (ms : List Bool) → j < n → IsMarked ms j → Contains (given_of boxes j) g → g < length ms → IsMarked (spread_below boxes n ms) g
+  below-covers : (n j g : ℕ) (ms : List Bool) → j < n → IsMarked ms j → Contains (given_of boxes j) g →
+      g < length ms → IsMarked (spread_below boxes n ms) g
   below-covers zero j g ms h is c below = absurd (omega (arith, h))
   below-covers (suc n) j g ms h is c below = elim (last n j h) [
     | inl e ↦ subst (λ i. IsMarked (spread_from boxes i (spread_below boxes n ms)) g) e
-        (from-covers j g (spread_below boxes n ms) (below-keeps n ms j is) c (subst (λ l. g < l) (sym (below-length n ms)) below))
+        (from-covers j g (spread_below boxes n ms) (below-keeps n ms j is) c
+        (subst (λ l. g < l) (sym (below-length n ms)) below))
     | inr less ↦ from-keeps n (spread_below boxes n ms) g (below-covers n j g ms less is c below)
   ]
     where
@@ -163,7 +177,8 @@ module _ (boxes : List BoxInfo) where
       last n j h = grind (arith, h)
 
   -- one box more
-  snoc : (n f b k : ℕ) → IsGivenThrough boxes n f b → Contains (given_of boxes b) k → IsGivenThrough boxes (suc n) f k
+  snoc : (n f b k : ℕ) → IsGivenThrough boxes n f b → Contains (given_of boxes b) k →
+      IsGivenThrough boxes (suc n) f k
   snoc zero f b k h c = (b, h, c)
   snoc (suc n) f b k (next, first, rest) c = (next, first, snoc n next b k rest c)
 
@@ -171,7 +186,8 @@ module _ (boxes : List BoxInfo) where
   Sound : ℕ → List Bool → Type 0
   Sound f ms = (k : ℕ) → IsMarked ms k → IsGiven boxes f k
 
-  one-only : (f b : ℕ) (ms : List Bool) (t : Bool) → slice_index_or ms b false ≡ t → Sound f ms → Sound f (one t b ms)
+  one-only : (f b : ℕ) (ms : List Bool) (t : Bool) → slice_index_or ms b false ≡ t → Sound f ms →
+      Sound f (one t b ms)
   unfolding one Sound
   one-only f b ms false is sound k h = sound k h
   one-only f b ms true is sound k h = elim (with-only (given_of boxes b) ms k h) [
@@ -183,11 +199,13 @@ module _ (boxes : List BoxInfo) where
   below-only f zero ms sound = sound
   below-only f (suc n) ms sound =
       let m : List Bool = spread_below boxes n ms in
-      subst (Sound f) (sym (from-is n m)) (one-only f n m (slice_index_or m n false) refl (below-only f n ms sound))
+      subst (Sound f) (sym (from-is n m))
+      (one-only f n m (slice_index_or m n false) refl (below-only f n ms sound))
 
   times-only : (f r : ℕ) (ms : List Bool) → Sound f ms → Sound f (spread_times boxes r ms)
   times-only f zero ms sound = sound
-  times-only f (suc r) ms sound = below-only f (length boxes) (spread_times boxes r ms) (times-only f r ms sound)
+  times-only f (suc r) ms sound = below-only f (length boxes) (spread_times boxes r ms)
+      (times-only f r ms sound)
 
   times-keeps : (r : ℕ) (ms : List Bool) (k : ℕ) → IsMarked ms k → IsMarked (spread_times boxes r ms) k
   times-keeps zero ms k h = h
@@ -213,17 +231,20 @@ module _ (boxes : List BoxInfo) where
 
   pass-more : (ms : List Bool) → (ms ≡ pass ms) ⊎ (marked ms < marked (pass ms))
   unfolding pass Has
-  pass-more ms = marked-more ms (pass ms) (sym (below-length (length boxes) ms)) (below-keeps (length boxes) ms)
+  pass-more ms = marked-more ms (pass ms) (sym (below-length (length boxes) ms))
+      (below-keeps (length boxes) ms)
 
   pass-length : (ms : List Bool) → length (pass ms) ≡ length ms
   unfolding pass
   pass-length ms = below-length (length boxes) ms
 
-  stable : (r : ℕ) (ms : List Bool) → length ms ≤ r + marked ms → pass (spread_times boxes r ms) ≡ spread_times boxes r ms
+  stable : (r : ℕ) (ms : List Bool) → length ms ≤ r + marked ms →
+      pass (spread_times boxes r ms) ≡ spread_times boxes r ms
   stable zero ms h = elim (pass-more ms) [
     | inl same ↦ sym same
     | inr less ↦ let most : marked (pass ms) ≤ length (pass ms) = marked-most (pass ms) in
-        let same : length (pass ms) ≡ length ms = pass-length ms in absurd (omega (arith, h, less, most, same))
+        let same : length (pass ms) ≡ length ms = pass-length ms in
+        absurd (omega (arith, h, less, most, same))
   ]
   stable (suc r) ms h = elim (pass-more ms) [
     | inl same ↦ let at : spread_times boxes (suc r) ms ≡ ms = times-same (suc r) ms (sym same) in
@@ -234,10 +255,13 @@ module _ (boxes : List BoxInfo) where
   ]
 
   -- what is given through boxes is marked, where marks are closed
-  reach : (marks : List Bool) → ((j g : ℕ) → IsMarked marks j → Contains (given_of boxes j) g → IsMarked marks g) →
-      (n x k : ℕ) → ((g : ℕ) → Contains (given_of boxes x) g → IsMarked marks g) → IsGivenThrough boxes n x k → IsMarked marks k
+  reach : (marks : List Bool) →
+      ((j g : ℕ) → IsMarked marks j → Contains (given_of boxes j) g → IsMarked marks g) →
+      (n x k : ℕ) → ((g : ℕ) → Contains (given_of boxes x) g → IsMarked marks g) →
+      IsGivenThrough boxes n x k → IsMarked marks k
   reach marks closed zero x k from c = from k c
-  reach marks closed (suc n) x k from (next, c, rest) = reach marks closed n next k (λ g cg. closed next g (from next c) cg) rest
+  reach marks closed (suc n) x k from (next, c, rest) =
+      reach marks closed n next k (λ g cg. closed next g (from next c) cg) rest
 
   -- the marks that a row begins with
   begun : ℕ → List Bool
@@ -245,7 +269,8 @@ module _ (boxes : List BoxInfo) where
 
   begun-length : (box : ℕ) → length (begun box) ≡ length boxes
   unfolding begun
-  begun-length box = with-length (given_of boxes box) (no_marks (length boxes)) ∙ no_marks_count (length boxes)
+  begun-length box = with-length (given_of boxes box) (no_marks (length boxes))
+      ∙ no_marks_count (length boxes)
 
   begun-only : (box : ℕ) → Sound box (begun box)
   unfolding Sound begun
@@ -257,10 +282,12 @@ module _ (boxes : List BoxInfo) where
   begun-covers : GivesBoxes boxes → (box g : ℕ) → Contains (given_of boxes box) g → IsMarked (begun box) g
   unfolding begun
   begun-covers gives box g c =
-      with-covers (given_of boxes box) (no_marks (length boxes)) g c (subst (λ n. g < n) (sym (no_marks_count (length boxes))) (gives.there box g c))
+      with-covers (given_of boxes box) (no_marks (length boxes)) g c
+      (subst (λ n. g < n) (sym (no_marks_count (length boxes))) (gives.there box g c))
 
   -- a row has exactly the boxes that its box is given
-  row-known : GivesBoxes boxes → (box : ℕ) → (row : List Bool) → row ≡ spread_times boxes (length boxes) (begun box) → KnowsGiven boxes box row
+  row-known : GivesBoxes boxes → (box : ℕ) → (row : List Bool) →
+      row ≡ spread_times boxes (length boxes) (begun box) → KnowsGiven boxes box row
   unfolding Sound pass
   row-known gives box row is = subst (KnowsGiven boxes box) (sym is) (
       let marks : List Bool = spread_times boxes (length boxes) (begun box) in
@@ -268,38 +295,49 @@ module _ (boxes : List BoxInfo) where
       let same : pass marks ≡ marks = stable (length boxes) (begun box) (omega (arith, begun-length box)) in
       let closed : (j g : ℕ) → IsMarked marks j → Contains (given_of boxes j) g → IsMarked marks g =
       (λ j g h c. subst (λ l. IsMarked l g) same
-      (below-covers (length boxes) j g marks (subst (λ n. j < n) long (marked-there marks j h)) h c (subst (λ n. g < n) (sym long) (gives.there j g c)))) in
+      (below-covers (length boxes) j g marks (subst (λ n. j < n) long (marked-there marks j h)) h c
+      (subst (λ n. g < n) (sym long) (gives.there j g c)))) in
       record {
         count = long;
         each = (λ other. (
           λ h. times-only box (length boxes) (begun box) (begun-only box) other h,
-          λ given. reach marks closed given.0 box other (λ g c. times-keeps (length boxes) (begun box) g (begun-covers gives box g c)) given.1,
+          λ given. reach marks closed given.0 box other
+              (λ g c. times-keeps (length boxes) (begun box) g (begun-covers gives box g c)) given.1,
         ));
       })
 
-  pub row_known : GivesBoxes boxes → (box : ℕ) (given : List ℕ) (row : List Bool) → given ≡ given_of boxes box →
-      row ≡ spread_times boxes (length boxes) (marked_with given (no_marks (length boxes))) → KnowsGiven boxes box row
+  pub row_known : GivesBoxes boxes → (box : ℕ) (given : List ℕ) (row : List Bool) →
+      given ≡ given_of boxes box →
+      row ≡ spread_times boxes (length boxes) (marked_with given (no_marks (length boxes))) →
+      KnowsGiven boxes box row
   unfolding begun
   row_known gives box given row same is =
-      row-known gives box row (is ∙ ap (λ (l : List ℕ). spread_times boxes (length boxes) (marked_with l (no_marks (length boxes)))) same)
+      row-known gives box row
+      (is ∙ ap (λ (l : List ℕ). spread_times boxes (length boxes)
+      (marked_with l (no_marks (length boxes)))) same)
 
   -- the next one of the first boxes
-  pub spread_next : (n m : ℕ) (ms : List Bool) → m ≡ n + 1 → spread_below boxes m ms ≡ spread_from boxes n (spread_below boxes n ms)
+  pub spread_next : (n m : ℕ) (ms : List Bool) → m ≡ n + 1 →
+      spread_below boxes m ms ≡ spread_from boxes n (spread_below boxes n ms)
   spread_next n m ms h = let e : m ≡ suc n = omega (arith, h) in ap (λ k. spread_below boxes k ms) e
 
-  pub times_next : (n m : ℕ) (ms : List Bool) → m ≡ n + 1 → spread_times boxes m ms ≡ spread_below boxes (length boxes) (spread_times boxes n ms)
+  pub times_next : (n m : ℕ) (ms : List Bool) → m ≡ n + 1 →
+      spread_times boxes m ms ≡ spread_below boxes (length boxes) (spread_times boxes n ms)
   times_next n m ms h = let e : m ≡ suc n = omega (arith, h) in ap (λ k. spread_times boxes k ms) e
 
   -- along given boxes fewer and fewer are marked, where there is no cycle
-  pub falls : (rows : List (List Bool)) → HasNoCycle boxes → GivesBoxes boxes → KnowsAllGiven boxes rows → (box g : ℕ) → box < length boxes → Contains (given_of boxes box) g →
+  pub falls : (rows : List (List Bool)) → HasNoCycle boxes → GivesBoxes boxes → KnowsAllGiven boxes rows →
+      (box g : ℕ) → box < length boxes → Contains (given_of boxes box) g →
       marked (slice_index_or rows g []) < marked (slice_index_or rows box [])
   unfolding Has
   falls rows acyclic gives known box g below c =
       let upper : KnowsGiven boxes box (slice_index_or rows box []) = known.each box below in
       let lower : KnowsGiven boxes g (slice_index_or rows g []) = known.each g (gives.there box g c) in
-      elim (marked-more (slice_index_or rows g []) (slice_index_or rows box []) (lower.count ∙ sym upper.count)
+      elim (marked-more (slice_index_or rows g []) (slice_index_or rows box [])
+      (lower.count ∙ sym upper.count)
       (λ k h. let to = (lower.each k).0 h in (upper.each k).1 (suc to.0, (g, c, to.1)))) [
-        | inl same ↦ absurd (acyclic.none g ((lower.each g).0 (subst (λ l. IsMarked l g) (sym same) ((upper.each g).1 (0, c)))))
+        | inl same ↦ absurd (acyclic.none g
+            ((lower.each g).0 (subst (λ l. IsMarked l g) (sym same) ((upper.each g).1 (0, c)))))
         | inr less ↦ less
       ]
 
@@ -314,15 +352,18 @@ no_marks_next n m ms h is =
     ap (λ (l : List Bool). l ++ false ∷ []) is ∙ (sym (no-marks-push n) ∙ sym (ap no_marks e))
 
 -- what a box is given, by the box
-pub given_at : (boxes : List BoxInfo) (n : ℕ) (b : BoxInfo) → n < length boxes → (slice_index_or boxes n b).given ≡ given_of boxes n
+pub given_at : (boxes : List BoxInfo) (n : ℕ) (b : BoxInfo) → n < length boxes →
+    (slice_index_or boxes n b).given ≡ given_of boxes n
 given_at [] n b h = absurd (omega (arith, h))
 given_at (x ∷ xs) zero b h = refl
 given_at (x ∷ xs) (suc n) b h = given_at xs n b (omega (arith, h))
 
 -- the numbers of given boxes are those of boxes
-pub all_there : (boxes : List BoxInfo) (n : ℕ) (given : List ℕ) (count : ℕ) → GivesBoxes boxes → given ≡ given_of boxes n → count ≡ length boxes → All (λ g. g < count) given
+pub all_there : (boxes : List BoxInfo) (n : ℕ) (given : List ℕ) (count : ℕ) → GivesBoxes boxes →
+    given ≡ given_of boxes n → count ≡ length boxes → All (λ g. g < count) given
 all_there boxes n given count gives is long k d below =
-    let c : Contains given (slice_index_or given k d) = (k, below, same given k d (slice_index_or given k d) below) in
+    let c : Contains given (slice_index_or given k d) =
+    (k, below, same given k d (slice_index_or given k d) below) in
     subst (λ c. slice_index_or given k d < c) (sym long)
     (gives.there n (slice_index_or given k d) (subst (λ l. Contains l (slice_index_or given k d)) is c))
   where
@@ -332,21 +373,27 @@ all_there boxes n given count gives is long k d below =
     same (x ∷ xs) (suc k) d e h = same xs k d e (omega (arith, h))
 
 -- what holds below a number and at it holds below the next one
-pub below-next : (P : ℕ → Type 0) (n m : ℕ) → m ≡ n + 1 → ((k : ℕ) → k < n → P k) → P n → (k : ℕ) → k < m → P k
-below-next P n m h all at k below = elim (last n k (omega (arith, h, below))) [ inl e ↦ subst P (sym e) at | inr less ↦ all k less ]
+pub below-next : (P : ℕ → Type 0) (n m : ℕ) → m ≡ n + 1 → ((k : ℕ) → k < n → P k) → P n → (k : ℕ) → k < m →
+    P k
+below-next P n m h all at k below = elim (last n k (omega (arith, h, below)))
+    [ inl e ↦ subst P (sym e) at | inr less ↦ all k less ]
   where
     last : (n k : ℕ) → k < suc n → (k ≡ n) ⊎ (k < n)
     last n k h = grind (arith, h)
 
 -- one row more
-pub one_more_row : (boxes : List BoxInfo) (n : ℕ) (rows : List (List Bool)) (row : List Bool) → length rows ≡ n →
+pub one_more_row : (boxes : List BoxInfo) (n : ℕ) (rows : List (List Bool)) (row : List Bool) →
+    length rows ≡ n →
     ((k : ℕ) → k < n → KnowsGiven boxes k (slice_index_or rows k [])) → KnowsGiven boxes n row →
     (k : ℕ) → k < n + 1 → KnowsGiven boxes k (slice_index_or (rows ++ row ∷ []) k [])
-one_more_row boxes n rows row count each new = below-next (λ k. KnowsGiven boxes k (slice_index_or (rows ++ row ∷ []) k [])) n (n + 1) refl
+one_more_row boxes n rows row count each new = below-next
+    (λ k. KnowsGiven boxes k (slice_index_or (rows ++ row ∷ []) k [])) n (n + 1) refl
     (λ k h. subst (KnowsGiven boxes k) (sym (old rows k (omega (arith, h, count)))) (each k h))
-    (subst (λ k. KnowsGiven boxes n (slice_index_or (rows ++ row ∷ []) k [])) count (subst (KnowsGiven boxes n) (sym (here rows)) new))
+    (subst (λ k. KnowsGiven boxes n (slice_index_or (rows ++ row ∷ []) k [])) count
+    (subst (KnowsGiven boxes n) (sym (here rows)) new))
   where
-    old : (rs : List (List Bool)) (k : ℕ) → k < length rs → slice_index_or (rs ++ row ∷ []) k [] ≡ slice_index_or rs k []
+    old : (rs : List (List Bool)) (k : ℕ) → k < length rs →
+        slice_index_or (rs ++ row ∷ []) k [] ≡ slice_index_or rs k []
     old [] k h = absurd (omega (arith, h))
     old (r ∷ rs) zero h = refl
     old (r ∷ rs) (suc k) h = old rs k (omega (arith, h))
@@ -361,32 +408,38 @@ none-beyond [] n k h c = omega (arith, c.1)
 none-beyond (b ∷ bs) zero k h c = omega (arith, h)
 none-beyond (b ∷ bs) (suc n) k h c = none-beyond bs n k (omega (arith, h)) c
 
-starts : (boxes : List BoxInfo) (n box k : ℕ) → IsGivenThrough boxes n box k → (g : ℕ) × Contains (given_of boxes box) g
+starts : (boxes : List BoxInfo) (n box k : ℕ) → IsGivenThrough boxes n box k →
+    (g : ℕ) × Contains (given_of boxes box) g
 starts boxes zero box k h = (k, h)
 starts boxes (suc n) box k h = (h.0, h.1)
 
 -- there is no cycle where no box is in one
-pub no_cycle_by : (boxes : List BoxInfo) (n : ℕ) → length boxes ≤ n → ((k : ℕ) → k < n → IsCyclic boxes k → ⊥) → HasNoCycle boxes
+pub no_cycle_by : (boxes : List BoxInfo) (n : ℕ) → length boxes ≤ n →
+    ((k : ℕ) → k < n → IsCyclic boxes k → ⊥) → HasNoCycle boxes
 no_cycle_by boxes n h none = record {
   none = λ box cyclic. by_place box cyclic (nat_lt box n) refl;
 }
   where
     by_place : (box : ℕ) → IsCyclic boxes box → (t : Bool) → nat_lt box n ≡ t → ⊥
     by_place box cyclic true is = none box (grind (arith, is)) cyclic
-    by_place box cyclic false is = let first = starts boxes cyclic.0 box box cyclic.1 in none-beyond boxes box first.0 (grind (arith, is, h)) first.1
+    by_place box cyclic false is = let first = starts boxes cyclic.0 box box cyclic.1 in
+        none-beyond boxes box first.0 (grind (arith, is, h)) first.1
 
 -- a box that its own row doesn't mark isn't in a cycle
-pub not_cyclic : (boxes : List BoxInfo) (rows : List (List Bool)) (box : ℕ) (row : List Bool) → KnowsAllGiven boxes rows → box < length boxes → row ≡ slice_index_or rows box row →
+pub not_cyclic : (boxes : List BoxInfo) (rows : List (List Bool)) (box : ℕ) (row : List Bool) →
+    KnowsAllGiven boxes rows → box < length boxes → row ≡ slice_index_or rows box row →
     slice_index_or row box false ≡ false → IsCyclic boxes box → ⊥
 not_cyclic boxes rows box row known below is not cyclic =
     let marks : IsMarked (slice_index_or rows box []) box = ((known.each box below).each box).1 cyclic in
-    let same : row ≡ slice_index_or rows box [] = is ∙ default rows box row [] (subst (λ n. box < n) (sym known.count) below) in
+    let same : row ≡ slice_index_or rows box [] =
+    is ∙ default rows box row [] (subst (λ n. box < n) (sym known.count) below) in
     true-false (sym (subst (λ l. IsMarked l box) (sym same) marks) ∙ not)
   where
     true-false : true ≡ false → ⊥
     true-false e = absurd (cc)
 
-    default : (rs : List (List Bool)) (k : ℕ) (d e : List Bool) → k < length rs → slice_index_or rs k d ≡ slice_index_or rs k e
+    default : (rs : List (List Bool)) (k : ℕ) (d e : List Bool) → k < length rs →
+        slice_index_or rs k d ≡ slice_index_or rs k e
     default [] k d e h = absurd (omega (arith, h))
     default (r ∷ rs) zero d e h = refl
     default (r ∷ rs) (suc k) d e h = default rs k d e (omega (arith, h))

@@ -1,5 +1,6 @@
 -- What is answered on a text whose names are known: its program, or why it has none.
-use Rattle.std.specs.Prelude.{◌≡◌, ℕ, ◌+◌, List, [], length, slice_get, Option, Some, option_map, Result, Ok, Err}
+use Rattle.std.specs.Prelude.{◌≡◌, ℕ, ◌+◌, List, [], length, slice_get, Option, Some, option_map, Result}
+use Rattle.std.specs.Prelude.{Ok, Err}
 use Rattle.seuss_program.specs.declared.tree.Tree.{Tree}
 use Rattle.seuss_program.specs.declared.program.BoxInfo.{BoxInfo}
 use Rattle.seuss_program.specs.declared.program.Program.{Program}
@@ -26,7 +27,8 @@ line_of boxes box = option_map (λ (b : BoxInfo). b.name.line) (slice_get boxes 
 -- no box is in a cycle, or this is the first that is, and stands on this line; want of memory is free
 abbrev pub Levels : Result Program OrderRefusal → Program → Type 0
 Levels (Ok p) named = HasNoCycle named.boxes × (p ≡ levelled named) × IsLevelled named p
-Levels (Err (R.Cycle line first)) named = IsFirstCyclic named.boxes first × (line_of named.boxes first ≡ Some line)
+Levels (Err (R.Cycle line first)) named = IsFirstCyclic named.boxes first
+    × (line_of named.boxes first ≡ Some line)
 Levels (Err (R.PartialCall line)) named = ⊥
 Levels (Err (R.TotalCall line)) named = ⊥
 Levels (Err R.Memory) named = Unit {0}

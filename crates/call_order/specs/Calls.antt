@@ -1,6 +1,7 @@
 -- The calls of a text whose method is of the wrong form: a partial one in a body, or a total one as a
 -- preprocedure.
-use Rattle.std.specs.Prelude.{ℕ, Bool, true, false, if◌then◌else◌, List, [], ◌∷◌, ◌++◌, Option, None, Some, option_and_then}
+use Rattle.std.specs.Prelude.{ℕ, Bool, true, false, if◌then◌else◌, List, [], ◌∷◌, ◌++◌, Option, None, Some}
+use Rattle.std.specs.Prelude.{option_and_then}
 use Rattle.std.specs.List.{flat_map}
 use Rattle.seuss_program.specs.declared.tree.Name.{Name}
 use Rattle.seuss_program.specs.declared.tree.Given.{Given}
@@ -29,7 +30,8 @@ module _ {N : Type 0} where
 
   -- the method that a call names, in the cat of the given box that it names
   abbrev pub called : List (Cat N) → List (Given Name) → Call Name → Option (Proc N)
-  called cats given c = option_and_then (procedure_of cats c.method) (named (λ (g : Given Name). g.name) given c.target)
+  called cats given c = option_and_then (procedure_of cats c.method)
+      (named (λ (g : Given Name). g.name) given c.target)
 
   abbrev pub is_total : Form N → Bool
   is_total (F.Total ss) = true
@@ -87,7 +89,8 @@ abbrev pub in_procedures : Inside → (Call Name → List ℕ) → List (Proc Na
 in_procedures inside at procs = flat_map (λ (q : Proc Name). inside at q.form) procs
 
 abbrev pub in_cats : {N : Type 0} → List (Cat N) → Inside → (Form N → Bool) → List (Cat Name) → List ℕ
-in_cats cats inside form owns = flat_map (λ (own : Cat Name). in_procedures inside (lines_of cats own.given form) own.procs) owns
+in_cats cats inside form owns = flat_map
+    (λ (own : Cat Name). in_procedures inside (lines_of cats own.given form) own.procs) owns
 
 -- the lines of the calls in bodies whose method is partial
 abbrev pub partial_calls : Tree → List ℕ

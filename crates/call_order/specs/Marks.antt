@@ -1,5 +1,6 @@
 -- Marks on boxes, one for each box.
-use Rattle.std.specs.Prelude.{◌≡◌, ℕ, zero, suc, ◌<◌, Bool, true, false, if◌then◌else◌, List, [], ◌∷◌, length, slice_index_or, slice_set, ◌↔◌}
+use Rattle.std.specs.Prelude.{◌≡◌, ℕ, zero, suc, ◌<◌, Bool, true, false, if◌then◌else◌, List, [], ◌∷◌}
+use Rattle.std.specs.Prelude.{length, slice_index_or, slice_set, ◌↔◌}
 use Rattle.seuss_program.specs.declared.program.BoxInfo.{BoxInfo}
 use Rattle.call_order.specs.Cycles.{given_of, IsGiven}
 
@@ -19,7 +20,8 @@ marked_with (g ∷ gs) marks = marked_with gs (slice_set marks g true)
 
 -- what a box is given is marked, where the box itself is marked
 abbrev pub spread_from : List BoxInfo → ℕ → List Bool → List Bool
-spread_from boxes box marks = if slice_index_or marks box false then marked_with (given_of boxes box) marks else marks
+spread_from boxes box marks = if slice_index_or marks box false then marked_with (given_of boxes box) marks
+    else marks
 
 -- the same for each of the first boxes, in their order
 abbrev pub spread_below : List BoxInfo → ℕ → List Bool → List Bool

@@ -1,7 +1,9 @@
 ghost use Rattle.std.specs.Prelude.{◌≡◌, MatchOption, option_map, slice_get};
 ghost use Rattle.std.specs.Option.{option_copied};
 ghost use Rattle.std.specs.List.{flat_map};
-ghost use Rattle.call_order.specs.Calls.{called, procedure_in, procedure_of, is_partial, is_total, lines_of, in_statement, in_body, in_bodies, in_pre, in_pres, in_procedures, in_cats};
+ghost use Rattle.call_order.specs.Calls.{called, procedure_in, procedure_of, is_partial, is_total, lines_of};
+ghost use Rattle.call_order.specs.Calls.{in_statement, in_body, in_bodies, in_pre, in_pres, in_procedures};
+ghost use Rattle.call_order.specs.Calls.{in_cats};
 ghost use Rattle.call_order.specs.Firsts.{first_of};
 ghost use Rattle.box_types.specs.Scopes.{named};
 ghost use Rattle.seuss_program.specs.declared.tree.Ref.{Ref};
@@ -37,7 +39,8 @@ pub(crate) fn first_partial_call(tree: &Tree, cats: &[Cat<Ref>]) -> Option<u32>
 }
 
 fn partial_in_procedures(procs: &[Proc<Name>], seen: &Seen) -> Option<u32>
-    ensures { result ≡ first_of (in_procedures in_bodies (lines_of seen.now.cats.now seen.now.given.now is_partial) procs.now) }
+    ensures { result ≡ first_of
+        (in_procedures in_bodies (lines_of seen.now.cats.now seen.now.given.now is_partial) procs.now) }
 {
     for procedure in procs {
         if let Some(line) = partial_in_bodies(&procedure.form, seen) {
@@ -48,7 +51,8 @@ fn partial_in_procedures(procs: &[Proc<Name>], seen: &Seen) -> Option<u32>
 }
 
 fn partial_in_bodies(form: &Form<Name>, seen: &Seen) -> Option<u32>
-    ensures { result ≡ first_of (in_bodies (lines_of seen.now.cats.now seen.now.given.now is_partial) form.now) }
+    ensures { result ≡ first_of
+        (in_bodies (lines_of seen.now.cats.now seen.now.given.now is_partial) form.now) }
 {
     match form {
         Form::Total(body) => partial_in_body(body.as_slice(), seen),
@@ -58,7 +62,9 @@ fn partial_in_bodies(form: &Form<Name>, seen: &Seen) -> Option<u32>
 }
 
 fn partial_in_alternatives(parts: &[Alternative<Name>], seen: &Seen) -> Option<u32>
-    ensures { result ≡ first_of (flat_map (λ (a : Alternative Name). in_body (lines_of seen.now.cats.now seen.now.given.now is_partial) a.body) parts.now) }
+    ensures { result ≡ first_of
+        (flat_map (λ (a : Alternative Name). in_body
+        (lines_of seen.now.cats.now seen.now.given.now is_partial) a.body) parts.now) }
 {
     for part in parts {
         if let Some(line) = partial_in_body(part.body.as_slice(), seen) {
@@ -71,7 +77,8 @@ fn partial_in_alternatives(parts: &[Alternative<Name>], seen: &Seen) -> Option<u
 /// The first call in a statement whose method is partial, by its line.
 #[cycle(partial_in)]
 fn partial_in_statement(statement: &Statement<Name>, seen: &Seen) -> Option<u32>
-    ensures { result ≡ first_of (in_statement (lines_of seen.now.cats.now seen.now.given.now is_partial) statement.now) }
+    ensures { result ≡ first_of
+        (in_statement (lines_of seen.now.cats.now seen.now.given.now is_partial) statement.now) }
 {
     match statement {
         Statement::Let { .. } => None,
@@ -87,7 +94,8 @@ fn partial_in_statement(statement: &Statement<Name>, seen: &Seen) -> Option<u32>
 
 #[cycle(partial_in)]
 fn partial_in_body(statements: &[Statement<Name>], seen: &Seen) -> Option<u32>
-    ensures { result ≡ first_of (in_body (lines_of seen.now.cats.now seen.now.given.now is_partial) statements.now) }
+    ensures { result ≡ first_of
+        (in_body (lines_of seen.now.cats.now seen.now.given.now is_partial) statements.now) }
 {
     for statement in statements {
         if let Some(line) = partial_in_statement(statement, seen) {
@@ -134,7 +142,8 @@ pub(crate) fn first_total_call(tree: &Tree, cats: &[Cat<Ref>]) -> Option<u32>
 }
 
 fn total_in_procedures(procs: &[Proc<Name>], seen: &Seen) -> Option<u32>
-    ensures { result ≡ first_of (in_procedures in_pres (lines_of seen.now.cats.now seen.now.given.now is_total) procs.now) }
+    ensures { result ≡ first_of
+        (in_procedures in_pres (lines_of seen.now.cats.now seen.now.given.now is_total) procs.now) }
 {
     for procedure in procs {
         if let Some(line) = total_in_pres(&procedure.form, seen) {
@@ -155,7 +164,9 @@ fn total_in_pres(form: &Form<Name>, seen: &Seen) -> Option<u32>
 }
 
 fn total_in_alternatives(parts: &[Alternative<Name>], seen: &Seen) -> Option<u32>
-    ensures { result ≡ first_of (flat_map (λ (a : Alternative Name). in_pre (lines_of seen.now.cats.now seen.now.given.now is_total) a.pre) parts.now) }
+    ensures { result ≡ first_of
+        (flat_map (λ (a : Alternative Name). in_pre (lines_of seen.now.cats.now seen.now.given.now is_total)
+        a.pre) parts.now) }
 {
     for part in parts {
         if let Some(line) = total_pre(&part.pre, seen) {

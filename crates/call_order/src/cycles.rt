@@ -1,6 +1,7 @@
 ghost use Rattle.std.specs.Prelude.{◌≡◌, ◌<◌, ◌≤◌, length, All, IfOk, IfSome, MatchOption};
 ghost use Rattle.call_order.specs.Cycles.{given_of, GivesBoxes, IsFirstCyclic, HasNoCycle};
-ghost use Rattle.call_order.specs.Marks.{no_marks, marked_with, spread_from, spread_below, spread_times, KnowsGiven, KnowsAllGiven};
+ghost use Rattle.call_order.specs.Marks.{no_marks, marked_with, spread_from, spread_below, spread_times};
+ghost use Rattle.call_order.specs.Marks.{KnowsGiven, KnowsAllGiven};
 
 use seuss_base::{List, Memory};
 use seuss_program::BoxInfo;
@@ -38,7 +39,9 @@ pub(crate) fn given_rows(alloc: Global, boxes: &[BoxInfo]) -> Result<List<List<b
 fn given_row(alloc: Global, boxes: &[BoxInfo], given: &[u32]) -> Result<List<bool>, Memory>
     requires there { GivesBoxes boxes.now }
     requires given { All (λ g. g < length boxes.now) given.now }
-    ensures { IfOk result (λ marks. marks ≡ spread_times boxes.now (length boxes.now) (marked_with given.now (no_marks (length boxes.now)))) }
+    ensures { IfOk result
+        (λ marks. marks ≡ spread_times boxes.now (length boxes.now)
+        (marked_with given.now (no_marks (length boxes.now)))) }
 {
     let mut marks = unmarked(alloc, boxes.len())?;
     mark_all(given, &mut marks);

@@ -30,7 +30,8 @@ pub fn order(alloc: Global, resolved: Resolved) -> Result<Program, OrderRefusal>
 pub fn level_of(program: &Program, box_number: u32) -> u32
     requires { box_number < length program.now.boxes }
     ensures value { result ≡ level_of program.now box_number }
-    ensures exact { Keeps program.now → result ≡ above (map (level_of program.now) (given_of program.now.boxes box_number)) }
+    ensures exact { Keeps program.now → result ≡ above
+        (map (level_of program.now) (given_of program.now.boxes box_number)) }
 {
     program.boxes.as_slice()[box_number as usize].level
 }

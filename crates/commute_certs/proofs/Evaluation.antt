@@ -1,5 +1,6 @@
 -- What is told of an expression in a case is its value at every point.
-use Rattle.std.proofs.Common.{◌≡◌, ℤ, pos, neg_ℤ, ◌+ℤ◌, ◌-ℤ◌, Bool, true, false, ◌&&◌, not, if◌then◌else◌, List, [], ◌∷◌, ◌++◌, Result, Ok, Err, refl, sym, ap, subst, ◌∙◌}
+use Rattle.std.proofs.Common.{◌≡◌, ℤ, pos, neg_ℤ, ◌+ℤ◌, ◌-ℤ◌, Bool, true, false, ◌&&◌, not, if◌then◌else◌}
+use Rattle.std.proofs.Common.{List, [], ◌∷◌, ◌++◌, Result, Ok, Err, refl, sym, ap, subst, ◌∙◌}
 use Rattle.std.specs.Prelude.{slice_index_or}
 use Rattle.std.proofs.Math.ListN.{get_or-map}
 use Rattle.seuss_program.specs.declared.tree.Ref.{Ref}
@@ -35,7 +36,8 @@ use Rattle.seuss_program.specs.declared.tree.Node.TheOpen.{Node-F}
 use Rattle.seuss_program.specs.declared.tree.Expr.{Expr, fold_out-Expr, ind-Expr, roll-Expr, map-Expr}
 use Rattle.seuss_base.specs.declared.outcome.Trap.TheVariants.{Overflow}
 use Rattle.commute_certs.proofs.Nodes.{node_of, part-node, layer_of, node-roll}
-use Rattle.commute_certs.proofs.Comparisons.{said, not_told, number_fits, is_digits, is_literal, Fine, int_at, seq_at, truth_at, parts_at, item_at, beside_at, read}
+use Rattle.commute_certs.proofs.Comparisons.{said, not_told, number_fits, is_digits, is_literal, Fine}
+use Rattle.commute_certs.proofs.Comparisons.{int_at, seq_at, truth_at, parts_at, item_at, beside_at, read}
 
 module _ (p : Point) where
   -- a part is a symbol that has this value

@@ -1,5 +1,7 @@
 -- What is foreseen of a single method in a case is its run at every point.
-use Rattle.std.proofs.Common.{◌≡◌, ℤ, pos, Bool, true, false, ◌&&◌, not, if◌then◌else◌, List, [], ◌∷◌, ◌++◌, map, length, Option, None, Some, option_map, Result, Ok, Err, refl, sym, ap, subst, ◌∙◌, append_assoc}
+use Rattle.std.proofs.Common.{◌≡◌, ℤ, pos, Bool, true, false, ◌&&◌, not, if◌then◌else◌, List, [], ◌∷◌, ◌++◌}
+use Rattle.std.proofs.Common.{map, length, Option, None, Some, option_map, Result, Ok, Err, refl, sym, ap}
+use Rattle.std.proofs.Common.{subst, ◌∙◌, append_assoc}
 use Rattle.std.specs.Prelude.{slice_index_or}
 use Rattle.std.specs.List.{flat_map}
 use Rattle.std.proofs.Math.ListN.{get_or-map}
@@ -15,7 +17,8 @@ use Rattle.seuss_program.specs.declared.tree.Alternative.{Alternative}
 use Rattle.seuss_program.specs.declared.tree.Form.{Form}
 use Rattle.seuss_program.specs.declared.tree.Form.TheVariants as F
 use Rattle.seuss_program.specs.declared.tree.Proc.{Proc}
-use Rattle.seuss_program.specs.declared.tree.Statement.{Statement, fold-roll-Statement, map-Statement, roll-Statement, ind-Statement}
+use Rattle.seuss_program.specs.declared.tree.Statement.{Statement, fold-roll-Statement, map-Statement}
+use Rattle.seuss_program.specs.declared.tree.Statement.{roll-Statement, ind-Statement}
 use Rattle.seuss_program.specs.declared.tree.Statement.TheOpen as S
 use Rattle.seuss_program.specs.declared.tree.Statement.TheOpen.{Statement-F}
 use Rattle.seuss_program.specs.declared.state.Value.{Value}
@@ -25,7 +28,8 @@ use Rattle.seuss_program.specs.Programs.{vars_of}
 use Rattle.seuss_program.specs.Bodies as M
 use Rattle.seuss_program.specs.Bodies.{Ran, Called, Callee, Done}
 use Rattle.seuss_program.specs.Attempts as A
-use Rattle.seuss_program.specs.Attempts.{entry_slots, locals_of, locals_step, bound_local, form_locals, first_value, finished, result_of, choice, performed, attempt}
+use Rattle.seuss_program.specs.Attempts.{entry_slots, locals_of, locals_step, bound_local, form_locals}
+use Rattle.seuss_program.specs.Attempts.{first_value, finished, result_of, choice, performed, attempt}
 use Rattle.method_code.specs.Singles.{is_false, none_holds, is_plainly_rejected}
 use Rattle.shape_terms.specs.declared.num_form.NumForm.{NumForm}
 use Rattle.shape_terms.specs.declared.symbol.Symbol.{Symbol}
@@ -40,7 +44,8 @@ use Rattle.commute_certs.specs.Runs.{nothing, one_box, alone, Alone}
 use Rattle.commute_certs.specs.Terms as T
 use Rattle.commute_certs.specs.Bodies as B
 use Rattle.commute_certs.specs.Foreseen as G
-use Rattle.commute_certs.specs.Foreseen.{first_symbol, first_slots, result_form, foreseen, outcome_by, result_at, is_plain, run_at}
+use Rattle.commute_certs.specs.Foreseen.{first_symbol, first_slots, result_form, foreseen, outcome_by}
+use Rattle.commute_certs.specs.Foreseen.{result_at, is_plain, run_at}
 use Rattle.commute_certs.proofs.Comparisons.{not_told, int_at, number_fits}
 use Rattle.commute_certs.proofs.Evaluation.{steps}
 use Rattle.commute_certs.proofs.Statements.{each, each_each, done, decided_at, body_does}

@@ -1,12 +1,15 @@
 -- What the nodes of an expression come to, by what their parts come to.
-use Rattle.std.proofs.Common.{◌≡◌, ℤ, Bool, true, false, if◌then◌else◌, List, [], Result, Ok, Err, refl, sym, ap, subst, ◌∙◌}
+use Rattle.std.proofs.Common.{◌≡◌, ℤ, Bool, true, false, if◌then◌else◌, List, [], Result, Ok, Err, refl}
+use Rattle.std.proofs.Common.{sym, ap, subst, ◌∙◌}
 use Rattle.seuss_program.specs.declared.tree.Ref.{Ref}
 use Rattle.seuss_program.specs.declared.tree.Op.{Op}
 use Rattle.seuss_program.specs.declared.tree.Fun.{Fun}
 use Rattle.seuss_program.specs.declared.tree.Node.{Node, fold-Node, fold-roll-Node, map-Node, roll-Node}
 use Rattle.seuss_program.specs.declared.tree.Node.TheOpen as N
 use Rattle.seuss_program.specs.declared.tree.Node.TheVariants as NV
-use Rattle.seuss_program.specs.declared.tree.Node.TheVariants.{rolls-Int, rolls-Bool, rolls-Empty, rolls-Name, rolls-Neg, rolls-Not, rolls-Two, rolls-One}
+use Rattle.seuss_program.specs.declared.tree.Node.TheVariants.{rolls-Int, rolls-Bool, rolls-Empty}
+use Rattle.seuss_program.specs.declared.tree.Node.TheVariants.{rolls-Name, rolls-Neg, rolls-Not, rolls-Two}
+use Rattle.seuss_program.specs.declared.tree.Node.TheVariants.{rolls-One}
 use Rattle.seuss_program.specs.declared.tree.Node.TheOpen.{Node-F}
 use Rattle.seuss_program.specs.declared.tree.Expr.{Expr, fold_out-Expr}
 use Rattle.seuss_program.specs.Values.{fits}
@@ -19,7 +22,8 @@ use Rattle.commute_certs.specs.declared.why.Untold.{Untold}
 use Rattle.commute_certs.specs.declared.why.Untold.TheVariants as U
 use Rattle.commute_certs.specs.declared.part.Part.{Part}
 use Rattle.commute_certs.specs.declared.part.Part.TheVariants as P
-use Rattle.commute_certs.specs.Terms.{Meant, node_meant, part_of, and_then, combined, decides, measured, negated, named, symbol_of, shape_in, truth, truth_in, opposite}
+use Rattle.commute_certs.specs.Terms.{Meant, node_meant, part_of, and_then, combined, decides, measured}
+use Rattle.commute_certs.specs.Terms.{negated, named, symbol_of, shape_in, truth, truth_in, opposite}
 use Rattle.commute_certs.specs.Answers.{Tells}
 
 -- what a node comes to

@@ -1,10 +1,12 @@
 -- What the statements of a body leave in a case is what they do at every point.
-use Rattle.std.proofs.Common.{◌≡◌, Bool, true, false, if◌then◌else◌, List, [], ◌∷◌, map, Ok, Err, refl, sym, ap, subst, ◌∙◌}
+use Rattle.std.proofs.Common.{◌≡◌, Bool, true, false, if◌then◌else◌, List, [], ◌∷◌, map, Ok, Err, refl, sym}
+use Rattle.std.proofs.Common.{ap, subst, ◌∙◌}
 use Rattle.std.proofs.lemmas.List.{map-set}
 use Rattle.seuss_program.specs.declared.tree.Ref.{Ref}
 use Rattle.seuss_program.specs.declared.tree.Ref.TheVariants as R
 use Rattle.seuss_program.specs.declared.tree.Expr.{Expr}
-use Rattle.seuss_program.specs.declared.tree.Statement.{Statement, fold-roll-Statement, map-Statement, roll-Statement, ind-Statement}
+use Rattle.seuss_program.specs.declared.tree.Statement.{Statement, fold-roll-Statement, map-Statement}
+use Rattle.seuss_program.specs.declared.tree.Statement.{roll-Statement, ind-Statement}
 use Rattle.seuss_program.specs.declared.tree.Statement.TheOpen as S
 use Rattle.seuss_program.specs.declared.tree.Statement.TheOpen.{Statement-F}
 use Rattle.seuss_program.specs.declared.tree.Statement.TheShapes.{former-Statement-If-1}

@@ -1,5 +1,6 @@
 -- What is found over all cases is the verdict.
-use Rattle.std.proofs.Common.{◌≡◌, Bool, true, false, ◌&&◌, not, List, Option, None, Some, Result, Ok, Err, All, IsTrue, refl, sym, ap, subst, ◌∙◌, true≢false}
+use Rattle.std.proofs.Common.{◌≡◌, Bool, true, false, ◌&&◌, not, List, Option, None, Some, Result, Ok, Err}
+use Rattle.std.proofs.Common.{All, IsTrue, refl, sym, ap, subst, ◌∙◌, true≢false}
 use Rattle.std.specs.List.{Contains}
 use Rattle.seuss_base.specs.declared.level.Level.TheVariants as L
 use Rattle.std.specs.Prelude.{IfOk}
@@ -24,7 +25,8 @@ use Rattle.commute_certs.specs.declared.deciding.Found.{Found}
 use Rattle.commute_certs.specs.declared.deciding.Refutation.{Refutation}
 use Rattle.commute_certs.specs.Runs.{Alone, alone, IsState, Commute, HoldsAt}
 use Rattle.commute_certs.specs.Foreseen.{is_plain, run_at}
-use Rattle.commute_certs.specs.Decisions.{Difference, LooseDifference, IsFound, Sees, Seen, Untellable, Decides, By, Fails, verdict_by, why_by}
+use Rattle.commute_certs.specs.Decisions.{Difference, LooseDifference, IsFound, Sees, Seen, Untellable}
+use Rattle.commute_certs.specs.Decisions.{Decides, By, Fails, verdict_by, why_by}
 use Rattle.commute_certs.specs.Verdicts.{both_single, too_many, is_told, IsPlain, Refutes, IsVerdict}
 use Rattle.commute_certs.proofs.Comparisons.{signed, fitting}
 use Rattle.commute_certs.proofs.OrderLemmas.{runs_of, commutes, agrees, first_is}

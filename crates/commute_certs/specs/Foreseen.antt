@@ -1,5 +1,6 @@
 -- How a single method ends in a case, and what it leaves.
-use Rattle.std.specs.Prelude.{ℤ, pos, Bool, true, false, if◌then◌else◌, List, [], ◌∷◌, ◌++◌, map, length, slice_index_or, Option, None, Some, option_map, Result, Ok, Err}
+use Rattle.std.specs.Prelude.{ℤ, pos, Bool, true, false, if◌then◌else◌, List, [], ◌∷◌, ◌++◌, map, length}
+use Rattle.std.specs.Prelude.{slice_index_or, Option, None, Some, option_map, Result, Ok, Err}
 use Rattle.seuss_base.specs.declared.outcome.Outcome.{Outcome}
 use Rattle.seuss_base.specs.declared.outcome.Outcome.TheVariants as O
 use Rattle.seuss_program.specs.declared.tree.Ref.{Ref}

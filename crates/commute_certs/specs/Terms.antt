@@ -1,6 +1,8 @@
 -- What an expression comes to in a case, where each variable and each slot is a symbol: a symbol again, or
 -- why that can't be told. Only what is met counts: the right side of `and` and `or` where it is needed.
-use Rattle.std.specs.Prelude.{ℤ, pos, neg_ℤ, ◌+◌, int_lt, int_le, Bool, false, ◌&&◌, ◌||◌, not, if◌then◌else◌, List, [], length, slice_index_or, Option, None, Some, Result, Ok, Err}
+use Rattle.std.specs.Prelude.{ℤ, pos, neg_ℤ, ◌+◌, int_lt, int_le, Bool, false, ◌&&◌, ◌||◌, not}
+use Rattle.std.specs.Prelude.{if◌then◌else◌, List, [], length, slice_index_or, Option, None, Some, Result}
+use Rattle.std.specs.Prelude.{Ok, Err}
 use Rattle.std.specs.Ordering.{int_eq}
 use Rattle.seuss_program.specs.declared.tree.Ref.{Ref}
 use Rattle.seuss_program.specs.declared.tree.Ref.TheVariants as R

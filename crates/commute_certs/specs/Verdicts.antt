@@ -30,8 +30,8 @@ abbrev pub is_told : {A : Type 0} → Result A Reason → Bool
 is_told (Ok x) = true
 is_told (Err reason) = false
 
--- A pair is plain where both methods are single, there are at most 4,096 cases, and everything that is met in
--- each of them is told.
+-- A pair is plain where both methods are single, there are at most 4,096 cases, and everything that is met
+-- in each of them is told.
 pub record IsPlain (pair : Pair) : Type 0 where
   pub single : IsTrue (both_single pair)
   pub few : too_many pair ≡ None

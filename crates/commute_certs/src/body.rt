@@ -1,6 +1,7 @@
 ghost use Rattle.std.specs.Prelude.{◌≡◌, slice_set};
 ghost use Rattle.commute_certs.specs.Terms.{told, and_then, truth_in as truth_by};
-ghost use Rattle.commute_certs.specs.Bodies.{put as put_by, put_told, body as body_by, statement as statement_by};
+ghost use Rattle.commute_certs.specs.Bodies.{put as put_by, put_told, body as body_by};
+ghost use Rattle.commute_certs.specs.Bodies.{statement as statement_by};
 ghost use Rattle.commute_certs.specs.Answers.{Tells};
 
 use crate::parts::truth_in;

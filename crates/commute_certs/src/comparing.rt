@@ -1,6 +1,12 @@
 ghost use Rattle.std.specs.Prelude.{◌≡◌, Ok, Err, if◌then◌else◌};
 ghost use Rattle.commute_certs.specs.declared.why.Reason.TheVariants.{UndecidedCondition};
-ghost use Rattle.commute_certs.specs.Terms.{compared as compared_by, are_alike as alike_by, above as above_by, turned as turned_by, length_compared as length_by, no_difference as no_difference_by, same_symbols as same_by, symbols_compared as symbols_by, before_literal as before_literal_by, before_length as before_length_by, parts_compared as parts_by};
+ghost use Rattle.commute_certs.specs.Terms.{compared as compared_by, are_alike as alike_by};
+ghost use Rattle.commute_certs.specs.Terms.{above as above_by};
+ghost use Rattle.commute_certs.specs.Terms.{turned as turned_by, length_compared as length_by};
+ghost use Rattle.commute_certs.specs.Terms.{no_difference as no_difference_by, same_symbols as same_by};
+ghost use Rattle.commute_certs.specs.Terms.{symbols_compared as symbols_by};
+ghost use Rattle.commute_certs.specs.Terms.{before_literal as before_literal_by};
+ghost use Rattle.commute_certs.specs.Terms.{before_length as before_length_by, parts_compared as parts_by};
 ghost use Rattle.commute_certs.specs.Answers.{Tells};
 
 use crate::part::Part;

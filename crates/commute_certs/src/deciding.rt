@@ -1,4 +1,5 @@
-ghost use Rattle.std.specs.Prelude.{◌≡◌, ◌++◌, ◌∷◌, [], List as Items, Some, None, Ok, true, false, IsTrue, IfOk};
+ghost use Rattle.std.specs.Prelude.{◌≡◌, ◌++◌, ◌∷◌, [], List as Items, Some, None, Ok, true, false, IsTrue};
+ghost use Rattle.std.specs.Prelude.{IfOk};
 ghost use Rattle.seuss_program.specs.declared.tree.Ref.{Ref as RefOf};
 ghost use Rattle.seuss_program.specs.declared.tree.Proc.{Proc as ProcOf};
 ghost use Rattle.std.specs.Option.{option_copied};
@@ -31,8 +32,8 @@ pub struct Refutation {
     pub second: List<Value>,
 }
 
-/// What is found in some cases: whether two orders differ anywhere, and a state from which they do though the first
-/// method isn't plainly rejected.
+/// What is found in some cases: whether two orders differ anywhere, and a state from which they do though
+/// the first method isn't plainly rejected.
 #[derive(Debug, Drop)]
 pub struct Found {
     pub differs: bool,
@@ -87,7 +88,8 @@ fn brings_none(found: &Found, orders: &Orders) -> bool
 
 /// What is found with one more case, whose orders these are.
 fn with_case(alloc: Global, found: Found, case: &Case, orders: &Orders) -> Result<Found, Memory>
-    ensures { (m n : ProcOf RefOf) (seen : Items CaseOf) → Seen m n seen found → orders_of m n case.now ≡ Ok orders.now →
+    ensures { (m n : ProcOf RefOf) (seen : Items CaseOf) → Seen m n seen found →
+        orders_of m n case.now ≡ Ok orders.now →
         IfOk result (λ more. Seen m n (seen ++ case.now ∷ []) more) }
 {
     let Some(at) = orders_apart(orders) else {
@@ -190,7 +192,8 @@ fn decide_for(
     second: &Proc<Ref>,
 ) -> Result<Verdict, Memory>
     requires { Keeps program.now }
-    ensures { (pair : Pair) → pair_at program.now cat semi ≡ Some pair → pair.first ≡ first.now → pair.second ≡ second.now →
+    ensures { (pair : Pair) → pair_at program.now cat semi ≡ Some pair → pair.first ≡ first.now →
+        pair.second ≡ second.now →
         IfOk result (λ verdict. IsVerdict pair verdict) }
 {
     laws::decided_is_verdict();
@@ -204,11 +207,12 @@ fn decide_for(
     }
 }
 
-/// Decides a certificate of a cat: the highest level at which its first method semicommutes over its second one, or a
-/// state from which it doesn't at loose, or why its cases don't tell.
+/// Decides a certificate of a cat: the highest level at which its first method semicommutes over its second
+/// one, or a state from which it doesn't at loose, or why its cases don't tell.
 pub fn decide(alloc: Global, program: &Program, cat: u32, semi: u32) -> Result<Verdict, Memory>
     requires { Keeps program.now }
-    ensures { (pair : Pair) → pair_at program.now cat semi ≡ Some pair → IfOk result (λ verdict. IsVerdict pair verdict) }
+    ensures { (pair : Pair) → pair_at program.now cat semi ≡ Some pair →
+        IfOk result (λ verdict. IsVerdict pair verdict) }
 {
     let Some(own) = program.cats.get(cat as u64) else {
         return Ok(Verdict::Unclear(Why::NotSingle));

@@ -2,7 +2,10 @@ ghost use Rattle.std.specs.Prelude.{◌≡◌, pos, slice_index_or, IfOk};
 ghost use Rattle.shape_terms.specs.Numbers.{literal};
 ghost use Rattle.shape_terms.specs.declared.symbol.Symbol.TheVariants.{Number};
 ghost use Rattle.commute_certs.specs.Terms.{number_in as number_by};
-ghost use Rattle.commute_certs.specs.Foreseen.{first_symbol as first_by, first_slots as slots_by, result_form as result_by, finished, body_ends, chosen, choice, performed, foreseen};
+ghost use Rattle.commute_certs.specs.Foreseen.{first_symbol as first_by, first_slots as slots_by};
+ghost use Rattle.commute_certs.specs.Foreseen.{result_form as result_by, finished, body_ends, chosen};
+ghost use Rattle.commute_certs.specs.Foreseen.{choice};
+ghost use Rattle.commute_certs.specs.Foreseen.{performed, foreseen};
 ghost use Rattle.commute_certs.specs.Bodies.{body};
 ghost use Rattle.commute_certs.specs.Answers.{Tells};
 
@@ -52,7 +55,8 @@ fn first_slots(alloc: Global, proc: &Proc<Ref>, args: &[Symbol]) -> Result<List<
 
 /// The number in a slot, or 0 where there is no such slot.
 fn form_at(alloc: Global, slots: &List<Symbol>, at: u64) -> Result<NumForm, Memory>
-    ensures { IfOk result (λ form. form ≡ number_by (slice_index_or slots.now at (Number (literal (pos 0))))) }
+    ensures { IfOk result
+        (λ form. form ≡ number_by (slice_index_or slots.now at (Number (literal (pos 0))))) }
 {
     match slots.get(at) {
         Some(symbol) => number_in(alloc, symbol.copy(alloc)?),

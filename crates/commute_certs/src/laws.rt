@@ -30,25 +30,30 @@ pub fn told_is_value()
         value e (values_at vars p) (values_at slots p) ≡ Ok (value_at s p) }
 {}
 
-/// What is foreseen of a single method in a case is its run on the variables of its box alone, at every point.
+/// What is foreseen of a single method in a case is its run on the variables of its box alone, at every
+/// point.
 pub fn foreseen_is_run()
-    ensures { (q : Proc Ref) (args vars : List Symbol) (f : Foreseen) (p : Point) → foreseen q args vars ≡ Ok f →
+    ensures { (q : Proc Ref) (args vars : List Symbol) (f : Foreseen) (p : Point) →
+        foreseen q args vars ≡ Ok f →
         alone q (values_at args p) (values_at vars p) ≡ run_at f p }
 {}
 
 /// What is decided over all cases of two single methods, where they are few, is the verdict.
 pub fn decided_is_verdict()
-    ensures { (p : Program) (cat semi : ℕ) (pair : Pair) (verdict : Verdict) → Keeps p → pair_at p cat semi ≡ Some pair →
-        IsTrue (both_single pair) → too_many pair ≡ None → Decides pair.first pair.second (cases_of pair) verdict → IsVerdict pair verdict }
+    ensures { (p : Program) (cat semi : ℕ) (pair : Pair) (verdict : Verdict) → Keeps p →
+        pair_at p cat semi ≡ Some pair →
+        IsTrue (both_single pair) → too_many pair ≡ None →
+        Decides pair.first pair.second (cases_of pair) verdict → IsVerdict pair verdict }
 {
     shape_terms::laws::each_state_is_of_one_case();
     shape_terms::laws::points_are_states();
 }
 
-/// A certificate has one verdict: it holds up to one level, or it is refuted, or it is unclear. States that refute it
-/// may be many, and so may be the reasons why it is unclear.
+/// A certificate has one verdict: it holds up to one level, or it is refuted, or it is unclear. States that
+/// refute it may be many, and so may be the reasons why it is unclear.
 pub fn one_verdict()
-    ensures level { (pair : Pair) (level other : Level) → IsVerdict pair (Yes level) → IsVerdict pair (Yes other) → level ≡ other }
+    ensures level { (pair : Pair) (level other : Level) → IsVerdict pair (Yes level) →
+        IsVerdict pair (Yes other) → level ≡ other }
     ensures yes_or_no { (pair : Pair) (level : Level) (vars : Vars) (first second : List Value) →
         IsVerdict pair (Yes level) → IsVerdict pair (No vars first second) → ⊥ }
     ensures yes_or_unclear { (pair : Pair) (level : Level) (why : Why) →

@@ -3,7 +3,10 @@ ghost use Rattle.shape_terms.specs.declared.num_form.NumForm.{NumForm as Number}
 ghost use Rattle.shape_terms.specs.declared.shape.Shape.{Shape};
 ghost use Rattle.shape_terms.specs.declared.refusal.FormRefusal.{FormRefusal as Refusal};
 ghost use Rattle.shape_terms.specs.Sequences.{Answers};
-ghost use Rattle.commute_certs.specs.Terms.{symbol_of as symbol_by, number_in as number_by, shape_in as shape_by, truth_in as truth_by, number_part as number_told, shape_part as shape_told, named};
+ghost use Rattle.commute_certs.specs.Terms.{symbol_of as symbol_by, number_in as number_by};
+ghost use Rattle.commute_certs.specs.Terms.{shape_in as shape_by};
+ghost use Rattle.commute_certs.specs.Terms.{truth_in as truth_by, number_part as number_told};
+ghost use Rattle.commute_certs.specs.Terms.{shape_part as shape_told, named};
 ghost use Rattle.commute_certs.specs.Answers.{Tells};
 
 use crate::part::Part;

@@ -1,5 +1,6 @@
 ghost use Rattle.std.specs.Prelude.{◌≡◌, ◌&&◌, is_none};
-ghost use Rattle.method_code.specs.Singles.{is_single as single_form, is_single_body, is_single_statement, are_single as single_alternatives};
+ghost use Rattle.method_code.specs.Singles.{is_single as single_form, is_single_body, is_single_statement};
+ghost use Rattle.method_code.specs.Singles.{are_single as single_alternatives};
 
 use seuss_program::{Alternative, Form, Ref, Statement};
 

@@ -1,6 +1,11 @@
 ghost use Rattle.std.specs.Prelude.{◌≡◌, Ok, neg_ℤ, ℤ, SomeIff, FitsSigned};
 ghost use Rattle.std.specs.Int.{w64};
-ghost use Rattle.commute_certs.specs.Terms.{told, part_of, decides as decides_by, combined, measured as measured_by, negated as negated_by, number_part as number_told, symbol_of as symbol_by, shape_in as shape_by, number_in as number_by, item as item_by, opposite, truth, truth_in as truth_by, parts_compared as parts_by};
+ghost use Rattle.commute_certs.specs.Terms.{told, part_of, decides as decides_by, combined};
+ghost use Rattle.commute_certs.specs.Terms.{measured as measured_by, negated as negated_by};
+ghost use Rattle.commute_certs.specs.Terms.{number_part as number_told, symbol_of as symbol_by};
+ghost use Rattle.commute_certs.specs.Terms.{shape_in as shape_by, number_in as number_by, item as item_by};
+ghost use Rattle.commute_certs.specs.Terms.{opposite, truth, truth_in as truth_by};
+ghost use Rattle.commute_certs.specs.Terms.{parts_compared as parts_by};
 ghost use Rattle.shape_terms.specs.Numbers.{plus, minus as minus_by, literal_of};
 ghost use Rattle.shape_terms.specs.Sequences.{add};
 ghost use Rattle.shape_terms.specs.declared.symbol.Symbol.TheVariants.{Number, Sequence};
@@ -30,7 +35,8 @@ fn negated(part: &Part) -> Result<Part, Untold>
 
 /// A number with a minus, where it has 64 bits.
 fn minus(found: Option<i64>) -> Result<Part, Untold>
-    ensures { (z : ℤ) → SomeIff found (FitsSigned w64 (neg_ℤ z)) (neg_ℤ z) → Tells result (negated_by (Digits z)) }
+    ensures { (z : ℤ) → SomeIff found (FitsSigned w64 (neg_ℤ z)) (neg_ℤ z) →
+        Tells result (negated_by (Digits z)) }
 {
     match found {
         Some(z) => Ok(Part::Minus(z)),
@@ -70,7 +76,8 @@ fn measured(alloc: Global, fun: Fun, part: Part) -> Result<Part, Untold>
 
 /// The element of a sequence at an index, which is a number where the sequence is sure to have it.
 fn item(alloc: Global, sequence: Part, index: Part) -> Result<Part, Untold>
-    ensures { Tells result (number_told (item_by (shape_by (symbol_by sequence)) (literal_of (number_by (symbol_by index))))) }
+    ensures { Tells result
+        (number_told (item_by (shape_by (symbol_by sequence)) (literal_of (number_by (symbol_by index))))) }
 {
     let sequence = part_shape(alloc, sequence)?;
     let index = part_number(alloc, index)?;
@@ -91,7 +98,8 @@ fn sum(alloc: Global, a: Part, b: Part) -> Result<Part, Untold>
 
 /// The difference of two parts modulo 2^64.
 fn difference(alloc: Global, a: Part, b: Part) -> Result<Part, Untold>
-    ensures { Tells result (Ok (Other (Number (minus_by (number_by (symbol_by a)) (number_by (symbol_by b)))))) }
+    ensures { Tells result
+        (Ok (Other (Number (minus_by (number_by (symbol_by a)) (number_by (symbol_by b)))))) }
 {
     let first = part_number(alloc, a)?;
     let second = part_number(alloc, b)?;

@@ -7,8 +7,8 @@ use seuss_program::{Value, Vars};
 pub enum Verdict {
     /// It holds at this level and at none above.
     Yes(Level),
-    /// From this state, with these arguments of the first and of the second method, the two orders differ, though
-    /// the first method isn't plainly rejected.
+    /// From this state, with these arguments of the first and of the second method, the two orders differ,
+    /// though the first method isn't plainly rejected.
     No {
         vars: Vars,
         first: List<Value>,

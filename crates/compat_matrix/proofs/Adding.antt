@@ -1,5 +1,7 @@
 -- Members that a list gets.
-use Rattle.std.proofs.Common.{◌≡◌, ℕ, zero, suc, ◌+◌, ◌^◌, ◌<◌, ◌⊎◌, inl, inr, take, get_or, List, [], ◌∷◌, ◌++◌, length, Option, None, Some, refl, sym, ap, ◌∙◌, subst, arith, length-append}
+use Rattle.std.proofs.Common.{◌≡◌, ℕ, zero, suc, ◌+◌, ◌^◌, ◌<◌, ◌⊎◌, inl, inr, take, get_or, List, [], ◌∷◌}
+use Rattle.std.proofs.Common.{◌++◌, length, Option, None, Some, refl, sym, ap, ◌∙◌, subst, arith}
+use Rattle.std.proofs.Common.{length-append}
 use Rattle.std.specs.Prelude.{slice_get}
 use Rattle.std.proofs.lemmas.List.{take_more}
 use Rattle.std.proofs.lemmas.Option.{none-some}
@@ -20,7 +22,8 @@ use Rattle.method_code.specs.declared.instruction.CallCode.{CallCode}
 use Rattle.method_code.specs.declared.method.Head.{Head}
 use Rattle.compat_matrix.specs.declared.part.Part.TheVariants.{Line, Tail}
 use Rattle.compat_matrix.proofs.TextCalls.{in_left, in_right, in_either}
-use Rattle.compat_matrix.specs.Members.{IsCalled, IsBegun, heads_of, CodeCalls, Lists, HasEffects, FindsEffects, Adds, IsOne}
+use Rattle.compat_matrix.specs.Members.{IsCalled, IsBegun, heads_of, CodeCalls, Lists, HasEffects}
+use Rattle.compat_matrix.specs.Members.{FindsEffects, Adds, IsOne}
 use Rattle.method_code.specs.declared.method.Method.{Method}
 use Rattle.method_code.specs.Codes.{compiled, method_code, number_of}
 use Rattle.method_code.proofs.Places.{coded, uncoded}

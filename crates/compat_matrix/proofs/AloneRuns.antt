@@ -1,5 +1,7 @@
 -- A single procedure does the same on any box of any program as on one box alone.
-use Rattle.std.proofs.Common.{◌≡◌, ℕ, zero, suc, Bool, true, false, ◌&&◌, IsTrue, if◌then◌else◌, List, [], ◌∷◌, map, get_or, set, Option, None, Some, is_none, Ok, Err, refl, sym, ap, subst, ◌∙◌, true≢false}
+use Rattle.std.proofs.Common.{◌≡◌, ℕ, zero, suc, Bool, true, false, ◌&&◌, IsTrue, if◌then◌else◌, List, []}
+use Rattle.std.proofs.Common.{◌∷◌, map, get_or, set, Option, None, Some, is_none, Ok, Err, refl, sym, ap}
+use Rattle.std.proofs.Common.{subst, ◌∙◌, true≢false}
 use Rattle.seuss_program.specs.declared.tree.Ref.{Ref}
 use Rattle.seuss_program.specs.declared.tree.Ref.TheVariants as R
 use Rattle.seuss_program.specs.declared.tree.Expr.{Expr}
@@ -8,7 +10,8 @@ use Rattle.seuss_program.specs.declared.tree.Alternative.{Alternative}
 use Rattle.seuss_program.specs.declared.tree.Form.{Form}
 use Rattle.seuss_program.specs.declared.tree.Form.TheVariants as F
 use Rattle.seuss_program.specs.declared.tree.Proc.{Proc}
-use Rattle.seuss_program.specs.declared.tree.Statement.{Statement, fold-roll-Statement, map-Statement, roll-Statement, ind-Statement}
+use Rattle.seuss_program.specs.declared.tree.Statement.{Statement, fold-roll-Statement, map-Statement}
+use Rattle.seuss_program.specs.declared.tree.Statement.{roll-Statement, ind-Statement}
 use Rattle.seuss_program.specs.declared.tree.Statement.TheOpen as S
 use Rattle.seuss_program.specs.declared.tree.Statement.TheOpen.{Statement-F}
 use Rattle.seuss_program.specs.declared.tree.Statement.TheShapes.{former-Statement-If-1}
@@ -23,7 +26,8 @@ use Rattle.seuss_program.specs.Bodies.{Finish, Done, Trapped, Spent, Ran, Called
 use Rattle.seuss_program.specs.Attempts as A
 use Rattle.seuss_program.specs.Attempts.{finished}
 use Rattle.seuss_program.specs.Keeping.{all_true}
-use Rattle.method_code.specs.Singles.{single_step, is_single_statement, is_single_body, are_single, is_single}
+use Rattle.method_code.specs.Singles.{single_step, is_single_statement, is_single_body, are_single}
+use Rattle.method_code.specs.Singles.{is_single}
 use Rattle.commute_certs.specs.Runs.{one_box}
 
 abbrev each : {X Y : Type 0} → (X → Y) → List X → List Y

@@ -1,5 +1,7 @@
 -- The levels of certificates that hold are sound.
-use Rattle.std.proofs.Common.{arith, ◌≡◌, ◌≢◌, ℕ, suc, ◌+◌, Bool, true, false, ◌&&◌, if◌then◌else◌, List, [], ◌∷◌, map, All, Option, None, Some, option_and_then, refl, sym, ap, subst, ◌∙◌}
+use Rattle.std.proofs.Common.{arith, ◌≡◌, ◌≢◌, ℕ, suc, ◌+◌, Bool, true, false, ◌&&◌, if◌then◌else◌, List}
+use Rattle.std.proofs.Common.{[], ◌∷◌, map, All, Option, None, Some, option_and_then, refl, sym, ap, subst}
+use Rattle.std.proofs.Common.{◌∙◌}
 use Rattle.std.specs.Prelude.{slice_get, ◌==◌}
 use Rattle.std.specs.List.{AllZip}
 use Rattle.std.proofs.lemmas.Bool.{eqb-true, and_parts}
@@ -21,7 +23,8 @@ use Rattle.commute_certs.specs.declared.verdict.Verdict.TheVariants.{Yes}
 use Rattle.commute_certs.specs.Verdicts.{IsVerdict}
 use Rattle.compat_matrix.specs.declared.certificate.Certificate.{Certificate}
 use Rattle.compat_matrix.specs.Certified.{Commute}
-use Rattle.compat_matrix.specs.Certificates.{Written, written, written_from, IsOf, AreCertificates, names, levels_of}
+use Rattle.compat_matrix.specs.Certificates.{Written, written, written_from, IsOf, AreCertificates, names}
+use Rattle.compat_matrix.specs.Certificates.{levels_of}
 use Rattle.compat_matrix.proofs.NamedMethods.{paired}
 use Rattle.compat_matrix.proofs.Refusals.{some_same}
 

@@ -1,5 +1,6 @@
 -- A certificate that holds says the same of the steps from the entries of its methods.
-use Rattle.std.proofs.Common.{◌≡◌, ℕ, zero, suc, Bool, not, IsTrue, List, [], ◌∷◌, get_or, Option, Some, refl, sym, ap, subst, ◌∙◌}
+use Rattle.std.proofs.Common.{◌≡◌, ℕ, zero, suc, Bool, not, IsTrue, List, [], ◌∷◌, get_or, Option, Some}
+use Rattle.std.proofs.Common.{refl, sym, ap, subst, ◌∙◌}
 use Rattle.seuss_base.specs.declared.level.Level.{Level}
 use Rattle.seuss_base.specs.declared.level.Level.TheVariants as L
 use Rattle.seuss_program.specs.declared.tree.Ref.{Ref}

@@ -1,5 +1,6 @@
 -- How steps that leave their procedure end.
-use Rattle.std.proofs.Common.{◌≡◌, ℕ, zero, suc, ◌-◌, List, [], drop, Option, None, Some, Result, Ok, Err, refl, ap}
+use Rattle.std.proofs.Common.{◌≡◌, ℕ, zero, suc, ◌-◌, List, [], drop, Option, None, Some, Result, Ok, Err}
+use Rattle.std.proofs.Common.{refl, ap}
 use Rattle.std.specs.Prelude.{slice_get}
 use Rattle.seuss_base.specs.declared.outcome.Trap.{Trap}
 use Rattle.seuss_base.specs.declared.outcome.Outcome.{Outcome}

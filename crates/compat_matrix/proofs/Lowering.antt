@@ -1,5 +1,6 @@
 -- The least level over pairs of members.
-use Rattle.std.proofs.Common.{◌≡◌, ℕ, zero, suc, ◌+◌, ◌<◌, ◌≤◌, ◌⊎◌, inl, inr, List, [], ◌∷◌, ◌++◌, length, take, get_or, Some, refl, sym, ap, ◌∙◌, subst, arith, length-append}
+use Rattle.std.proofs.Common.{◌≡◌, ℕ, zero, suc, ◌+◌, ◌<◌, ◌≤◌, ◌⊎◌, inl, inr, List, [], ◌∷◌, ◌++◌, length}
+use Rattle.std.proofs.Common.{take, get_or, Some, refl, sym, ap, ◌∙◌, subst, arith, length-append}
 use Rattle.std.specs.Prelude.{slice_get}
 use Rattle.std.proofs.lemmas.Bool.{cases_lt}
 use Rattle.std.proofs.lemmas.List.{take_more}
@@ -18,7 +19,8 @@ use Rattle.seuss_program.specs.Programs.{procedure_of}
 use Rattle.method_code.specs.Codes.{cat_number}
 use Rattle.compat_matrix.specs.declared.part.Part.{Part}
 use Rattle.compat_matrix.specs.declared.member.Member.{Member}
-use Rattle.compat_matrix.specs.Rule.{IsAmong, IsRule, Tested, Apart, Certified, Free, Pair, IsLevel, CertifiedLevels}
+use Rattle.compat_matrix.specs.Rule.{IsAmong, IsRule, Tested, Apart, Certified, Free, Pair, IsLevel}
+use Rattle.compat_matrix.specs.Rule.{CertifiedLevels}
 use Rattle.compat_matrix.specs.Rules.{ruled}
 use Rattle.compat_matrix.specs.Members.{Lists, HasEffects, AreMembers, AreAllMembers}
 use Rattle.compat_matrix.specs.Leasts.{Meet, IsLeast, IsLower, HasCells, between}

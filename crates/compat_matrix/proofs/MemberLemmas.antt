@@ -10,7 +10,8 @@ use Rattle.seuss_program.specs.declared.program.Program.{Program}
 use Rattle.seuss_program.specs.declared.program.ActionInfo.{ActionInfo}
 use Rattle.seuss_program.specs.Programs.{procedure_of, level_of, target_of, method_of}
 use Rattle.seuss_program.specs.Keeping.{Keeps, call_fits, is_total, is_partial, is_action}
-use Rattle.seuss_program.specs.Lines.{IsIn, InLine, Own, Early, InTail, OfLine, OfTail, body_calls, early_calls}
+use Rattle.seuss_program.specs.Lines.{IsIn, InLine, Own, Early, InTail, OfLine, OfTail, body_calls}
+use Rattle.seuss_program.specs.Lines.{early_calls}
 use Rattle.method_code.specs.Codes.{given_number, entry_of, form_code}
 use Rattle.method_code.specs.Kinds.{IsAction}
 use Rattle.method_code.proofs.Places.{Stands, stands, scope, keeps_procedure, calls_below}

@@ -1,5 +1,6 @@
 -- Every two procedures have a level by the rule.
-use Rattle.std.proofs.Common.{◌≡◌, ℕ, zero, suc, ◌<◌, ◌≤◌, ◌⊎◌, inl, inr, Bool, true, false, IsTrue, refl, sym, subst, arith, true≢false}
+use Rattle.std.proofs.Common.{◌≡◌, ℕ, zero, suc, ◌<◌, ◌≤◌, ◌⊎◌, inl, inr, Bool, true, false, IsTrue, refl}
+use Rattle.std.proofs.Common.{sym, subst, arith, true≢false}
 use Rattle.std.proofs.lemmas.Bool.{cases_lt}
 use Rattle.seuss_base.specs.declared.level.Level.{Level}
 use Rattle.seuss_base.specs.declared.level.Level.TheVariants.{Never, Loose, Firm}
@@ -11,7 +12,8 @@ use Rattle.method_code.specs.Beside.{asks}
 use Rattle.effect_sets.specs.Effects.{tests, reads, writes, has_early, has_late}
 use Rattle.compat_matrix.specs.declared.part.Part.{Part}
 use Rattle.compat_matrix.specs.declared.part.Part.TheVariants.{Line, Tail}
-use Rattle.compat_matrix.specs.Rule.{Meets, TestsWritten, MayBeLate, KeepsApart, IsRule, Tested, Apart, Certified, Free}
+use Rattle.compat_matrix.specs.Rule.{Meets, TestsWritten, MayBeLate, KeepsApart, IsRule, Tested, Apart}
+use Rattle.compat_matrix.specs.Rule.{Certified, Free}
 
 true_or_not : (b : Bool) → (b ≡ true) ⊎ (b ≡ true → ⊥)
 true_or_not true = inl refl

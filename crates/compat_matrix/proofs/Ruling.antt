@@ -1,5 +1,6 @@
 -- The rule by sets as bits is the rule.
-use Rattle.std.proofs.Common.{◌≡◌, ◌≢◌, ℕ, zero, suc, ◌/◌, ◌%◌, ◌^◌, ◌<◌, inl, inr, min, Bool, true, false, not, ◌||◌, ◌&&◌, if◌then◌else◌, refl, sym, ap, ◌∙◌, arith, true≢false}
+use Rattle.std.proofs.Common.{◌≡◌, ◌≢◌, ℕ, zero, suc, ◌/◌, ◌%◌, ◌^◌, ◌<◌, inl, inr, min, Bool, true, false}
+use Rattle.std.proofs.Common.{not, ◌||◌, ◌&&◌, if◌then◌else◌, refl, sym, ap, ◌∙◌, arith, true≢false}
 use Rattle.std.specs.Prelude.{bit_and, ◌==◌}
 use Rattle.std.specs.Int.{bit_at}
 use Rattle.std.proofs.lemmas.Nat.{and_le_r, and_comm}
@@ -14,7 +15,8 @@ use Rattle.compat_matrix.proofs.Parts.{and_left, and_right}
 use Rattle.compat_matrix.specs.declared.part.Part.{Part}
 use Rattle.compat_matrix.specs.declared.part.Part.TheVariants.{Line, Tail}
 use Rattle.compat_matrix.specs.declared.member.Member.{Member}
-use Rattle.compat_matrix.specs.Rule.{Meets, TestsWritten, MayBeLate, KeepsApart, IsRule, Tested, Apart, Certified, Free}
+use Rattle.compat_matrix.specs.Rule.{Meets, TestsWritten, MayBeLate, KeepsApart, IsRule, Tested, Apart}
+use Rattle.compat_matrix.specs.Rule.{Certified, Free}
 use Rattle.compat_matrix.specs.Rules.{shares, is_line, tests_written, may_be_late, keeps_apart, ruled}
 
 -- a number of k bits that isn't 0 has a bit

@@ -1,5 +1,7 @@
 -- The level of two actions implies that the first one is safe beside the second one.
-use Rattle.std.proofs.Common.{◌≡◌, ◌≢◌, ℕ, ◌<◌, ◌≤◌, ◌⊎◌, inl, inr, Bool, true, false, IsTrue, List, [], ◌∷◌, length, map, Option, Some, option_and_then, refl, sym, ap, ◌∙◌, subst, arith, true≢false}
+use Rattle.std.proofs.Common.{◌≡◌, ◌≢◌, ℕ, ◌<◌, ◌≤◌, ◌⊎◌, inl, inr, Bool, true, false, IsTrue, List, []}
+use Rattle.std.proofs.Common.{◌∷◌, length, map, Option, Some, option_and_then, refl, sym, ap, ◌∙◌, subst}
+use Rattle.std.proofs.Common.{arith, true≢false}
 use Rattle.std.specs.Prelude.{slice_get, not, ◌||◌, ◌==◌}
 use Rattle.std.proofs.lemmas.List.{length-map}
 use Rattle.seuss_base.specs.declared.level.Level.{Level}
@@ -25,10 +27,12 @@ use Rattle.method_code.specs.declared.frame.End.TheVariants as E
 use Rattle.method_code.specs.Codes.{compiled, method_code, number_of, cat_number, entry_of}
 use Rattle.method_code.specs.Steps.{Stepped, step, step_in, entry, leaves}
 use Rattle.method_code.specs.Frames.{HasVars, IsPlace}
-use Rattle.method_code.specs.Kinds.{Early, Commit, Late, kind_of, kind_by, is_late, calls_early, begins_total, IsAction}
+use Rattle.method_code.specs.Kinds.{Early, Commit, Late, kind_of, kind_by, is_late, calls_early}
+use Rattle.method_code.specs.Kinds.{begins_total, IsAction}
 use Rattle.method_code.specs.Kinds as KS
 use Rattle.method_code.specs.Singles.{is_single}
-use Rattle.method_code.specs.Beside.{MayHave, Start, from, asks, Swaps, Semicommutes, MayBegin, AtEntry, AtPlace, SafeBeside}
+use Rattle.method_code.specs.Beside.{MayHave, Start, from, asks, Swaps, Semicommutes, MayBegin, AtEntry}
+use Rattle.method_code.specs.Beside.{AtPlace, SafeBeside}
 use Rattle.compat_matrix.proofs.NamedMethods.{holds_there}
 use Rattle.method_code.proofs.Places.{stands, coded, scope, keeps_procedure, calls_below}
 use Rattle.method_code.proofs.Attempting.{named}
@@ -37,7 +41,8 @@ use Rattle.effect_sets.specs.Effects.{tests, writes, has_early, has_late, is_som
 use Rattle.effect_sets.specs.Depends.{StaysInSets, EarlyStaysInTests}
 use Rattle.compat_matrix.specs.declared.part.Part.{Part}
 use Rattle.compat_matrix.specs.declared.part.Part.TheVariants.{Line, Tail}
-use Rattle.compat_matrix.specs.Rule.{CertifiedLevels, Meets, IsAmong, TestsWritten, MayBeLate, IsRule, Tested, Apart, Certified, Free, IsLevel, none_certified}
+use Rattle.compat_matrix.specs.Rule.{CertifiedLevels, Meets, IsAmong, TestsWritten, MayBeLate, IsRule}
+use Rattle.compat_matrix.specs.Rule.{Tested, Apart, Certified, Free, IsLevel, none_certified}
 use Rattle.compat_matrix.specs.Certified.{AreArguments, entering, Commute, IsSound}
 use Rattle.compat_matrix.proofs.Swapping.{apart_swaps, early_swaps, OnlyRejects, idle_first, idle_second}
 use Rattle.compat_matrix.proofs.MemberLemmas.{line_rejects, tail_total}

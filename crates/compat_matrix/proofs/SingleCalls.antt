@@ -1,5 +1,6 @@
 -- A procedure without preprocedures, calls and loops has no calls in its text.
-use Rattle.std.proofs.Common.{◌≡◌, Bool, false, IsTrue, List, [], ◌∷◌, ◌++◌, map, Option, None, Some, refl, sym, ap, ◌∙◌, subst, true≢false}
+use Rattle.std.proofs.Common.{◌≡◌, Bool, false, IsTrue, List, [], ◌∷◌, ◌++◌, map, Option, None, Some, refl}
+use Rattle.std.proofs.Common.{sym, ap, ◌∙◌, subst, true≢false}
 use Rattle.std.specs.Prelude.{◌||◌, ◌&&◌, is_none}
 use Rattle.std.specs.List.{flat_map}
 use Rattle.seuss_program.specs.declared.tree.Ref.{Ref}
@@ -8,12 +9,14 @@ use Rattle.seuss_program.specs.declared.tree.Pre.{Pre}
 use Rattle.seuss_program.specs.declared.tree.Form.{Form}
 use Rattle.seuss_program.specs.declared.tree.Form.TheVariants as F
 use Rattle.seuss_program.specs.declared.tree.Alternative.{Alternative}
-use Rattle.seuss_program.specs.declared.tree.Statement.{Statement, fold-roll-Statement, map-Statement, roll-Statement, ind-Statement}
+use Rattle.seuss_program.specs.declared.tree.Statement.{Statement, fold-roll-Statement, map-Statement}
+use Rattle.seuss_program.specs.declared.tree.Statement.{roll-Statement, ind-Statement}
 use Rattle.seuss_program.specs.declared.tree.Statement.TheOpen as S
 use Rattle.seuss_program.specs.declared.tree.Statement.TheOpen.{Statement-F}
 use Rattle.seuss_program.specs.Keeping.{all_true}
 use Rattle.seuss_program.specs.Lines.{calls_of, calls_step, body_calls, early_calls, pre_calls}
-use Rattle.method_code.specs.Singles.{single_step, is_single_statement, is_single_body, are_single, is_single}
+use Rattle.method_code.specs.Singles.{single_step, is_single_statement, is_single_body, are_single}
+use Rattle.method_code.specs.Singles.{is_single}
 use Rattle.compat_matrix.proofs.Parts.{and_left, and_right, each, each_each, calls-layer}
 use Rattle.effect_sets.specs.Effects.{has_late, is_some_call}
 

@@ -1,5 +1,6 @@
 -- The calls of a text: each one fits, and stands in the code of its procedure.
-use Rattle.std.proofs.Common.{◌≡◌, ℕ, ◌+◌, ◌⊎◌, inl, inr, Bool, IsTrue, List, [], ◌∷◌, ◌++◌, map, length, Option, None, Some, refl, sym, ap, ◌∙◌, subst}
+use Rattle.std.proofs.Common.{◌≡◌, ℕ, ◌+◌, ◌⊎◌, inl, inr, Bool, IsTrue, List, [], ◌∷◌, ◌++◌, map, length}
+use Rattle.std.proofs.Common.{Option, None, Some, refl, sym, ap, ◌∙◌, subst}
 use Rattle.std.specs.Prelude.{nat_le}
 use Rattle.std.specs.List.{flat_map}
 use Rattle.seuss_program.specs.declared.tree.Ref.{Ref}
@@ -8,19 +9,24 @@ use Rattle.seuss_program.specs.declared.tree.Pre.{Pre}
 use Rattle.seuss_program.specs.declared.tree.Form.{Form}
 use Rattle.seuss_program.specs.declared.tree.Form.TheVariants as F
 use Rattle.seuss_program.specs.declared.tree.Alternative.{Alternative}
-use Rattle.seuss_program.specs.declared.tree.Statement.{Statement, map-Statement, roll-Statement, ind-Statement}
+use Rattle.seuss_program.specs.declared.tree.Statement.{Statement, map-Statement, roll-Statement}
+use Rattle.seuss_program.specs.declared.tree.Statement.{ind-Statement}
 use Rattle.seuss_program.specs.declared.tree.Statement.TheOpen as S
 use Rattle.seuss_program.specs.declared.tree.Statement.TheOpen.{Statement-F}
 use Rattle.seuss_program.specs.declared.tree.Kind.TheVariants as KV
 use Rattle.seuss_program.specs.Keeping as K
-use Rattle.seuss_program.specs.Keeping.{Scope, statement_fits, body_fits, call_fits, pre_fits, alternative_fits, alternatives_fit, form_fits, is_total, is_partial, all_true, kind_in, is_of}
+use Rattle.seuss_program.specs.Keeping.{Scope, statement_fits, body_fits, call_fits, pre_fits}
+use Rattle.seuss_program.specs.Keeping.{alternative_fits, alternatives_fit, form_fits, is_total, is_partial}
+use Rattle.seuss_program.specs.Keeping.{all_true, kind_in, is_of}
 use Rattle.seuss_program.specs.Lines.{IsIn, calls_of, calls_step, body_calls, early_calls, pre_calls}
 use Rattle.method_code.specs.declared.instruction.Instruction.{Instruction}
 use Rattle.method_code.specs.declared.instruction.Instruction.TheVariants as I
 use Rattle.method_code.specs.declared.method.Head.{Head}
-use Rattle.method_code.specs.Codes.{code_of, code_step, joined, call_code, early_of, take_code, last_code, alternative_code, heads, entry_of, form_code}
+use Rattle.method_code.specs.Codes.{code_of, code_step, joined, call_code, early_of, take_code, last_code}
+use Rattle.method_code.specs.Codes.{alternative_code, heads, entry_of, form_code}
 use Rattle.compat_matrix.specs.Members.{heads_of}
-use Rattle.compat_matrix.proofs.Parts.{and_left, and_right, each, each_each, code-layer, calls-layer, fits-layer}
+use Rattle.compat_matrix.proofs.Parts.{and_left, and_right, each, each_each, code-layer, calls-layer}
+use Rattle.compat_matrix.proofs.Parts.{fits-layer}
 
 pub in_left : {A : Type 0} (x : A) (xs ys : List A) → IsIn x xs → IsIn x (xs ++ ys)
 in_left x [] ys h = elim h [ ]

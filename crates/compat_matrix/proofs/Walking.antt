@@ -1,5 +1,6 @@
 -- The walk from an action down to all that its passes may run.
-use Rattle.std.proofs.Common.{◌≡◌, ℕ, ◌+◌, ◌<◌, ◌≤◌, ◌⊎◌, inl, inr, false, get_or, List, [], ◌∷◌, length, None, Some, refl, sym, ap, ◌∙◌, subst, arith}
+use Rattle.std.proofs.Common.{◌≡◌, ℕ, ◌+◌, ◌<◌, ◌≤◌, ◌⊎◌, inl, inr, false, get_or, List, [], ◌∷◌, length}
+use Rattle.std.proofs.Common.{None, Some, refl, sym, ap, ◌∙◌, subst, arith}
 use Rattle.std.specs.Prelude.{slice_get}
 use Rattle.std.proofs.lemmas.Bool.{cases_lt}
 use Rattle.std.proofs.lemmas.Option.{none-some, slice_get_within, slice_get_past, slice_get-get_or}
@@ -11,7 +12,8 @@ use Rattle.seuss_program.specs.declared.program.Program.{Program}
 use Rattle.seuss_program.specs.declared.program.ActionInfo.{ActionInfo}
 use Rattle.seuss_program.specs.Programs.{procedure_of, level_of, target_of, method_of}
 use Rattle.seuss_program.specs.Keeping.{Keeps}
-use Rattle.seuss_program.specs.Lines.{IsIn, InLine, Own, Early, InTail, OfLine, OfTail, body_calls, early_calls}
+use Rattle.seuss_program.specs.Lines.{IsIn, InLine, Own, Early, InTail, OfLine, OfTail, body_calls}
+use Rattle.seuss_program.specs.Lines.{early_calls}
 use Rattle.method_code.specs.declared.instruction.Instruction.{Instruction}
 use Rattle.method_code.specs.declared.instruction.Instruction.TheVariants as I
 use Rattle.method_code.specs.declared.instruction.CallCode.{CallCode}
@@ -28,7 +30,9 @@ use Rattle.compat_matrix.specs.declared.part.Part.{Part}
 use Rattle.compat_matrix.specs.declared.part.Part.TheVariants.{Line, Tail}
 use Rattle.compat_matrix.specs.declared.member.Member.{Member}
 use Rattle.compat_matrix.specs.Rule.{IsAmong}
-use Rattle.compat_matrix.specs.Members.{Lists, HasEffects, Adds, IsOne, IsCalled, IsBegun, heads_of, CodeCalls, TextCalls, InBody, InPre, IsClosed, IsOnTheWay, AreMembers}
+use Rattle.compat_matrix.specs.Members.{Lists, HasEffects, Adds, IsOne, IsCalled, IsBegun, heads_of}
+use Rattle.compat_matrix.specs.Members.{CodeCalls, TextCalls, InBody, InPre, IsClosed, IsOnTheWay}
+use Rattle.compat_matrix.specs.Members.{AreMembers}
 use Rattle.compat_matrix.proofs.Adding.{still_lists}
 use Rattle.compat_matrix.proofs.MemberLemmas.{one_procedure, body_call, early_call, body_goes, early_goes}
 

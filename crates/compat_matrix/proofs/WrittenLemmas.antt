@@ -1,5 +1,6 @@
 -- The certificates of a program in the order of the text.
-use Rattle.std.proofs.Common.{◌≡◌, ℕ, suc, ◌+◌, ◌≤◌, List, [], ◌∷◌, ◌++◌, length, drop, map, Some, All, Err, refl, sym, ap, ◌∙◌, subst, arith, append_assoc, append-nil}
+use Rattle.std.proofs.Common.{◌≡◌, ℕ, suc, ◌+◌, ◌≤◌, List, [], ◌∷◌, ◌++◌, length, drop, map, Some, All, Err}
+use Rattle.std.proofs.Common.{refl, sym, ap, ◌∙◌, subst, arith, append_assoc, append-nil}
 use Rattle.std.specs.Prelude.{slice_get}
 use Rattle.std.specs.List.{AllZip}
 use Rattle.std.proofs.lemmas.Option.{slice_get_within, get_or_from_slice_get}
@@ -15,7 +16,8 @@ use Rattle.commute_certs.specs.declared.verdict.Verdict.TheVariants as V
 use Rattle.compat_matrix.specs.declared.certificate.Certificate.{Certificate}
 use Rattle.compat_matrix.specs.declared.refusal.MatrixRefusal.{MatrixRefusal}
 use Rattle.compat_matrix.specs.declared.refusal.MatrixRefusal.TheVariants as M
-use Rattle.compat_matrix.specs.Certificates.{Written, written, written_from, HasYes, Fails, IsRefused, IsOf, AreCertificates, Refuses}
+use Rattle.compat_matrix.specs.Certificates.{Written, written, written_from, HasYes, Fails, IsRefused, IsOf}
+use Rattle.compat_matrix.specs.Certificates.{AreCertificates, Refuses}
 use Rattle.compat_matrix.specs.Deciding.{Answers, SoFar}
 
 -- what is left from a place on begins with what stands there

@@ -1,5 +1,6 @@
 -- The certificates of a program in the order of its text, and what they say of the levels of its actions.
-use Rattle.std.specs.Prelude.{◌≡◌, ℕ, ◌+◌, Bool, ◌&&◌, ◌==◌, if◌then◌else◌, List, [], ◌∷◌, ◌++◌, map, length, All, Some, slice_get}
+use Rattle.std.specs.Prelude.{◌≡◌, ℕ, ◌+◌, Bool, ◌&&◌, ◌==◌, if◌then◌else◌, List, [], ◌∷◌, ◌++◌, map}
+use Rattle.std.specs.Prelude.{length, All, Some, slice_get}
 use Rattle.std.specs.List.{AllZip}
 use Rattle.seuss_base.specs.declared.level.Level.{Level}
 use Rattle.seuss_base.specs.declared.level.Level.TheVariants.{Never}

@@ -1,6 +1,7 @@
 -- The procedures of an action as a list, and how it is made: from the action on, each round adds what is
 -- called by the procedures that the round before added.
-use Rattle.std.specs.Prelude.{◌≡◌, ℕ, ◌+◌, ◌^◌, ◌<◌, ◌≤◌, ◌⊎◌, List, [], Option, None, Some, length, slice_get}
+use Rattle.std.specs.Prelude.{◌≡◌, ℕ, ◌+◌, ◌^◌, ◌<◌, ◌≤◌, ◌⊎◌, List, [], Option, None, Some, length}
+use Rattle.std.specs.Prelude.{slice_get}
 use Rattle.seuss_program.specs.declared.tree.Ref.{Ref}
 use Rattle.seuss_program.specs.declared.tree.Ref.TheVariants as R
 use Rattle.seuss_program.specs.declared.tree.Call.{Call}

@@ -1,4 +1,6 @@
-ghost use Rattle.std.specs.Prelude.{◌≡◌, ℕ, ◌+◌, ◌≤◌, List as ListOf, length, drop, slice_get, Some, OnOk, IfOk, IfErr};
+ghost use Rattle.std.specs.Prelude.{◌≡◌, ℕ, ◌+◌, ◌≤◌, List as ListOf, length, drop, slice_get, Some, OnOk};
+ghost use Rattle.std.specs.Prelude.{IfOk};
+ghost use Rattle.std.specs.Prelude.{IfErr};
 ghost use Rattle.seuss_program.specs.declared.tree.Ref.{Ref as RefOf};
 ghost use Rattle.seuss_program.specs.declared.tree.Cat.{Cat as CatOf};
 ghost use Rattle.seuss_program.specs.declared.tree.Ref.TheVariants.{Method};
@@ -39,7 +41,8 @@ fn certificate(
     semi: &Semi<Ref>,
 ) -> Result<Certificate, MatrixRefusal>
     requires { Keeps program.now }
-    ensures { (own : CatOf RefOf) → slice_get program.now.cats cat ≡ Some own → slice_get own.semis at ≡ Some semi.now →
+    ensures { (own : CatOf RefOf) → slice_get program.now.cats cat ≡ Some own →
+        slice_get own.semis at ≡ Some semi.now →
         Answers (cat, (own, semi.now)) result }
 {
     commute_certs::laws::one_verdict();
@@ -79,7 +82,8 @@ fn add_of_cat(
     requires there { slice_get program.now.cats cat ≡ Some own.now }
     requires few { length own.now.semis ≤ 64 }
     requires before { SoFar program.now (written_from cat (drop cat program.now.cats)) certificates.old }
-    ensures ok { OnOk result (SoFar program.now (written_from (cat + 1) (drop (cat + 1) program.now.cats)) certificates.new) }
+    ensures ok { OnOk result
+        (SoFar program.now (written_from (cat + 1) (drop (cat + 1) program.now.cats)) certificates.new) }
     ensures refused { IfErr result (Refuses program.now) }
 {
     for at in 0..own.semis.len() as u32 {
@@ -89,9 +93,9 @@ fn add_of_cat(
     Ok(())
 }
 
-/// The certificates of a program by numbers, in the order of the text, each with the highest level at which it
-/// holds. Refused is the first one in the order of the text that doesn't hold, or of which it isn't told whether it
-/// does.
+/// The certificates of a program by numbers, in the order of the text, each with the highest level at which
+/// it holds. Refused is the first one in the order of the text that doesn't hold, or of which it isn't told
+/// whether it does.
 pub fn certificates(alloc: Global, program: &Program) -> Result<List<Certificate>, MatrixRefusal>
     requires { Keeps program.now }
     ensures found { IfOk result (AreCertificates program.now) }
@@ -105,8 +109,8 @@ pub fn certificates(alloc: Global, program: &Program) -> Result<List<Certificate
     Ok(certificates)
 }
 
-/// How far each action is safe beside each other one, by the certificates of the program. Refused is the first one in
-/// the order of the text that doesn't hold, or of which it isn't told whether it does.
+/// How far each action is safe beside each other one, by the certificates of the program. Refused is the
+/// first one in the order of the text that doesn't hold, or of which it isn't told whether it does.
 pub fn matrix(alloc: Global, program: &Program, code: &Code) -> Result<CompatRows, MatrixRefusal>
     requires keeps { Keeps program.now }
     requires compiled { code.now ≡ compiled program.now }

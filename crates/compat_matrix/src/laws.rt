@@ -14,7 +14,8 @@ ghost use Rattle.seuss_program.specs.Programs.{procedure_of, cat_of};
 ghost use Rattle.shape_terms.specs.Cases.{Pair as CertifiedPair};
 ghost use Rattle.compat_matrix.specs.declared.certificate.Certificate.{Certificate as CertificateOf};
 ghost use Rattle.seuss_base.specs.Tables.{Table, level_at};
-ghost use Rattle.compat_matrix.specs.Certificates.{AreCertificates, AllHold, IsRefused, levels_of, AreLevels};
+ghost use Rattle.compat_matrix.specs.Certificates.{AreCertificates, AllHold, IsRefused, levels_of};
+ghost use Rattle.compat_matrix.specs.Certificates.{AreLevels};
 ghost use Rattle.seuss_program.specs.declared.state.Value.{Value};
 ghost use Rattle.seuss_program.specs.declared.state.Vars.{Vars as VarsOf};
 ghost use Rattle.commute_certs.specs.declared.why.Why.{Why};
@@ -31,10 +32,11 @@ use method_code::laws::{
     actions_are_actions, plain_rejection_is_told, rejection_place_only_rejects, single_step_is_run,
 };
 
-/// An action is safe beside another one at each level, loose or firm, up to the level that the rule gives them.
-/// `certified` are levels of certificates that hold; where there is none, nothing is asked.
+/// An action is safe beside another one at each level, loose or firm, up to the level that the rule gives
+/// them. `certified` are levels of certificates that hold; where there is none, nothing is asked.
 pub fn levels_imply_safety()
-    ensures certified { (p : Program) (certified : CertifiedLevels) (a b : ActionInfo) (level wanted : Level) →
+    ensures certified { (p : Program) (certified : CertifiedLevels) (a b : ActionInfo)
+        (level wanted : Level) →
         Keeps p → IsAction p a → IsAction p b → IsSound p certified → IsLevel p certified a b level →
         IsAtLeast level wanted → wanted ≢ Never → SafeBeside p wanted a b }
     ensures plain { (p : Program) (a b : ActionInfo) (level wanted : Level) →
@@ -48,8 +50,8 @@ pub fn levels_imply_safety()
     late_steps_are_behind_calls();
 }
 
-/// A certificate that holds at a level says the same of the steps from the entries of its methods, on each box of its
-/// cat.
+/// A certificate that holds at a level says the same of the steps from the entries of its methods, on each
+/// box of its cat.
 pub fn certificate_holds_for_steps()
     ensures { (p : Program) (pair : CertifiedPair) (level : Level) (box first second : ℕ) →
         cat_of p box ≡ Some pair.cat → procedure_of p box first ≡ Some pair.first →
@@ -69,7 +71,8 @@ pub fn levels_of_certificates_are_sound()
 
 /// The levels of a program's certificates and effects say how far its actions are safe beside one another.
 pub fn rows_imply_safety()
-    ensures { (p : Program) (es : List CertificateOf) (rows : Table) (a b : ℕ) (x y : ActionInfo) (wanted : Level) → Keeps p →
+    ensures { (p : Program) (es : List CertificateOf) (rows : Table) (a b : ℕ) (x y : ActionInfo)
+        (wanted : Level) → Keeps p →
         AreLevels p es rows → slice_get p.actions a ≡ Some x → slice_get p.actions b ≡ Some y →
         IsAtLeast (level_at rows a b) wanted → wanted ≢ Never → SafeBeside p wanted x y }
 {
@@ -78,12 +81,13 @@ pub fn rows_imply_safety()
     actions_are_actions();
 }
 
-/// Certificates that hold are all of those that are written, and one that doesn't hold is refused in one way: on one
-/// line, with a state from which it fails, or as unclear.
+/// Certificates that hold are all of those that are written, and one that doesn't hold is refused in one
+/// way: on one line, with a state from which it fails, or as unclear.
 pub fn one_refusal()
     ensures all { (p : Program) (es : List CertificateOf) → AreCertificates p es → AllHold p }
     ensures none { (p : Program) (line : ℕ) (verdict : Verdict) → AllHold p → IsRefused p line verdict → ⊥ }
-    ensures line { (p : Program) (line other : ℕ) (verdict two : Verdict) → IsRefused p line verdict → IsRefused p other two →
+    ensures line { (p : Program) (line other : ℕ) (verdict two : Verdict) → IsRefused p line verdict →
+        IsRefused p other two →
         line ≡ other }
     ensures kind { (p : Program) (line other : ℕ) (vars : VarsOf) (first second : List Value) (why : Why) →
         IsRefused p line (No vars first second) → IsRefused p other (Unclear why) → ⊥ }

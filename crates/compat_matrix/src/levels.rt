@@ -14,8 +14,8 @@ use seuss_base::{CompatRows, List, Memory};
 use seuss_program::Program;
 use std::alloc::Global;
 
-/// How far each action is safe beside each other one, where all certificates hold at these levels. Want of memory is
-/// the only error.
+/// How far each action is safe beside each other one, where all certificates hold at these levels. Want of
+/// memory is the only error.
 pub fn matrix_of(
     alloc: Global,
     program: &Program,
@@ -72,7 +72,8 @@ fn fill_row(
     requires count { rows.old.count ≡ length all.now }
     requires within { row < length all.now }
     ensures count { rows.new.count ≡ rows.old.count }
-    ensures cells { HasCells program.now (levels_of certificates.now) all.now rows.old row 0 → HasCells program.now (levels_of certificates.now) all.now rows.new (row + 1) 0 }
+    ensures cells { HasCells program.now (levels_of certificates.now) all.now rows.old row 0 →
+        HasCells program.now (levels_of certificates.now) all.now rows.new (row + 1) 0 }
 {
     let xs = all[row as usize].as_slice();
     for column in 0..rows.count() {

@@ -6,7 +6,8 @@ ghost use Rattle.seuss_program.specs.Programs.{target_of};
 ghost use Rattle.seuss_program.specs.Keeping.{Keeps};
 ghost use Rattle.method_code.specs.Codes.{compiled};
 ghost use Rattle.compat_matrix.specs.declared.part.Part.TheVariants.{Line};
-ghost use Rattle.compat_matrix.specs.Members.{IsAt, Lists, FindsEffects, Adds, IsOne, IsCalled, IsBegun, heads_of, CodeCalls, IsOnTheWay, AreMembers};
+ghost use Rattle.compat_matrix.specs.Members.{IsAt, Lists, FindsEffects, Adds, IsOne, IsCalled, IsBegun};
+ghost use Rattle.compat_matrix.specs.Members.{heads_of, CodeCalls, IsOnTheWay, AreMembers};
 
 use crate::Part;
 use crate::member::Member;
@@ -61,7 +62,8 @@ fn add_round(
     requires first { start ≤ end }
     requires within { end ≤ length members.old }
     ensures way { OnOk result ((a : ActionInfo) (round : ℕ) →
-        IsOnTheWay program.now a members.old start end round → IsOnTheWay program.now a members.new end end round) }
+        IsOnTheWay program.now a members.old start end round →
+        IsOnTheWay program.now a members.new end end round) }
     ensures more { OnOk result (length members.old ≤ length members.new) }
 {
     for at in start..end {
@@ -81,7 +83,8 @@ fn add_below(
     requires compiled { code.now ≡ compiled program.now }
     requires within { at < length members.old }
     ensures way { OnOk result ((a : ActionInfo) (end round : ℕ) → at < end →
-        IsOnTheWay program.now a members.old at end round → IsOnTheWay program.now a members.new (at + 1) end round) }
+        IsOnTheWay program.now a members.old at end round →
+        IsOnTheWay program.now a members.new (at + 1) end round) }
     ensures more { OnOk result (length members.old ≤ length members.new) }
 {
     let member = &members.as_slice()[at as usize];
@@ -104,7 +107,8 @@ fn add_called(
     method: &Method,
 ) -> Result<(), Memory>
     requires { code.now ≡ compiled program.now }
-    ensures { OnOk result (Adds program.now members.old members.new (CodeCalls program.now box_number part method.now)) }
+    ensures { OnOk result
+        (Adds program.now members.old members.new (CodeCalls program.now box_number part method.now)) }
 {
     let instructions = method.instructions.as_slice();
     match part {
@@ -125,7 +129,8 @@ fn add_early(
     entry: &Entry,
 ) -> Result<(), Memory>
     requires { code.now ≡ compiled program.now }
-    ensures { OnOk result (Adds program.now members.old members.new (IsBegun program.now box_number (heads_of entry.now))) }
+    ensures { OnOk result
+        (Adds program.now members.old members.new (IsBegun program.now box_number (heads_of entry.now))) }
 {
     match entry {
         Entry::Total => Ok(()),
@@ -141,7 +146,8 @@ fn add_heads(
     heads: &[Head],
 ) -> Result<(), Memory>
     requires { code.now ≡ compiled program.now }
-    ensures { OnOk result (Adds program.now members.old members.new (IsBegun program.now box_number heads.now)) }
+    ensures { OnOk result
+        (Adds program.now members.old members.new (IsBegun program.now box_number heads.now)) }
 {
     for head in heads {
         add_head(program, code, members, box_number, head)?;
@@ -157,7 +163,8 @@ fn add_head(
     head: &Head,
 ) -> Result<(), Memory>
     requires { code.now ≡ compiled program.now }
-    ensures { OnOk result (Adds program.now members.old members.new (IsBegun program.now box_number (head.now ∷ []))) }
+    ensures { OnOk result
+        (Adds program.now members.old members.new (IsBegun program.now box_number (head.now ∷ []))) }
 {
     match &head.early {
         Some(call) => {
@@ -177,7 +184,8 @@ fn add_calls(
     instructions: &[Instruction],
 ) -> Result<(), Memory>
     requires { code.now ≡ compiled program.now }
-    ensures { OnOk result (Adds program.now members.old members.new (IsCalled program.now box_number instructions.now)) }
+    ensures { OnOk result
+        (Adds program.now members.old members.new (IsCalled program.now box_number instructions.now)) }
 {
     for instruction in instructions {
         add_call(program, code, members, box_number, instruction)?;
@@ -193,7 +201,8 @@ fn add_call(
     instruction: &Instruction,
 ) -> Result<(), Memory>
     requires { code.now ≡ compiled program.now }
-    ensures { OnOk result (Adds program.now members.old members.new (IsCalled program.now box_number (instruction.now ∷ []))) }
+    ensures { OnOk result
+        (Adds program.now members.old members.new (IsCalled program.now box_number (instruction.now ∷ []))) }
 {
     match instruction {
         Instruction::Call(call) => {

@@ -5,8 +5,8 @@ use crate::Part;
 use crate::member::Member;
 use seuss_base::Level;
 
-/// The level of two procedures of one box, where `certified` is the level of the certificate that names both, and
-/// never where there is none.
+/// The level of two procedures of one box, where `certified` is the level of the certificate that names
+/// both, and never where there is none.
 pub(crate) fn rule(first: &Member, second: &Member, certified: Level) -> Level
     ensures { result ≡ ruled first.now second.now certified }
 {

@@ -4,7 +4,8 @@ use Rattle.std.specs.Prelude.{Contains}
 use Rattle.seuss_base.specs.declared.level.Level.{Level}
 use Rattle.seuss_base.specs.declared.level.Level.TheVariants.{Never, Loose, Firm}
 use Rattle.seuss_base.specs.declared.outcome.PassEnd.{PassEnd}
-use Rattle.seuss_base.specs.declared.outcome.PassEnd.TheVariants.{Accepted, PlainRejected, Rejected, Trapped, Spent}
+use Rattle.seuss_base.specs.declared.outcome.PassEnd.TheVariants.{Accepted, PlainRejected, Rejected}
+use Rattle.seuss_base.specs.declared.outcome.PassEnd.TheVariants.{Trapped, Spent}
 use Rattle.compat_scheduler.specs.declared.slot.Slot.TheVariants.{Pending, Running}
 use Rattle.compat_scheduler.specs.declared.ticket.Ticket.{Ticket}
 use Rattle.compat_scheduler.specs.declared.ticket.FinishVerdict.TheVariants.{Void}

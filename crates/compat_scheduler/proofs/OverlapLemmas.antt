@@ -1,5 +1,6 @@
 -- Passes that overlap, over whole runs.
-use Rattle.std.proofs.Common.{◌≡◌, ℕ, ◌<◌, ◌≤◌, Bool, true, false, List, [], ◌∷◌, ◌++◌, length, replicate, refl, sym, ap, ◌∙◌, subst, ◌⊎◌, inl, inr, ⊎_elim, arith}
+use Rattle.std.proofs.Common.{◌≡◌, ℕ, ◌<◌, ◌≤◌, Bool, true, false, List, [], ◌∷◌, ◌++◌, length, replicate}
+use Rattle.std.proofs.Common.{refl, sym, ap, ◌∙◌, subst, ◌⊎◌, inl, inr, ⊎_elim, arith}
 use Rattle.std.specs.Prelude.{Contains}
 use Rattle.std.specs.List.{slice_set}
 use Rattle.std.proofs.lemmas.Bool.{cases_eq, cases_lt}
@@ -17,10 +18,12 @@ use Rattle.compat_scheduler.specs.declared.ticket.FinishVerdict.TheVariants.{Kep
 use Rattle.compat_scheduler.specs.Settings.{Setting, copies, level, beside, action_of}
 use Rattle.compat_scheduler.specs.Machines.{Machine, slot_at, slot_of, beginning, IsRunning}
 use Rattle.compat_scheduler.specs.Starts.{IsAllowedBeside, IsFirmBeside, Starts, lowered}
-use Rattle.compat_scheduler.specs.Finishes.{is_ended, verdict_on, slot_after, settled, slot_finished, Finishes}
+use Rattle.compat_scheduler.specs.Finishes.{is_ended, verdict_on, slot_after, settled, slot_finished}
+use Rattle.compat_scheduler.specs.Finishes.{Finishes}
 use Rattle.compat_scheduler.specs.Runs.{Event, Leads, Runs, IsRun, IsOpen}
 use Rattle.compat_scheduler.specs.Runs.Event.{Start, Finish}
-use Rattle.compat_scheduler.proofs.Memberships.{contains_nothing, contains_cases, contains_first, contains_later}
+use Rattle.compat_scheduler.proofs.Memberships.{contains_nothing, contains_cases, contains_first}
+use Rattle.compat_scheduler.proofs.Memberships.{contains_later}
 use Rattle.compat_scheduler.proofs.SlotLemmas.{slot_at_past}
 use Rattle.compat_scheduler.proofs.SoundLemmas.{fresh_slots, within_slots}
 use Rattle.compat_scheduler.proofs.SchedulerLemmas.{running-starts, running_newcomer, running_elsewhere}
@@ -46,7 +49,8 @@ same_slot s m a b runs also e =
 -- a pass that runs and has no finish in these events still runs after them
 pub still_running : (s : Setting) (events : List Event) (old new : Machine) (t : Ticket) →
     Runs s old events new → IsRunning s old t →
-    ((end : PassEnd) (verdict : FinishVerdict) → ¬ Contains events (Finish t end verdict)) → IsRunning s new t
+    ((end : PassEnd) (verdict : FinishVerdict) → ¬ Contains events (Finish t end verdict)) →
+    IsRunning s new t
 still_running s [] old new t run running none = subst (λ (m : Machine). IsRunning s m t) (sym run) running
 still_running s (Start r ∷ events) old new t run running none =
     still_running s events run.0 new t run.2 (running-starts s old r run.0 t run.1 running)

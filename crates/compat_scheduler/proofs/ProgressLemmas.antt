@@ -1,5 +1,6 @@
 -- Where nothing runs something may start, and the machine after a run is one.
-use Rattle.std.proofs.Common.{◌≡◌, ℕ, ◌+◌, ◌*◌, ◌<◌, ◌≤◌, zero, suc, Bool, true, false, List, [], ◌∷◌, refl, sym, ap, ◌∙◌, subst, ⊎_elim, arith}
+use Rattle.std.proofs.Common.{◌≡◌, ℕ, ◌+◌, ◌*◌, ◌<◌, ◌≤◌, zero, suc, Bool, true, false, List, [], ◌∷◌, refl}
+use Rattle.std.proofs.Common.{sym, ap, ◌∙◌, subst, ⊎_elim, arith}
 use Rattle.std.specs.Prelude.{count_by, if◌then◌else◌}
 use Rattle.std.specs.List.{list_all}
 use Rattle.std.proofs.lemmas.List.Sums.{sum_by-cons}
@@ -65,7 +66,8 @@ allowed_beside_idle s i x j (Pending mode) idle = tt
 allowed_beside_idle s i x j (Running pass mode clean) idle = absurd (cc)
 
 -- where none is counted none runs
-none_runs : (slots : List Slot) (j : ℕ) → count_by is_running slots ≡ 0 → is_running (slot_at slots j) ≡ false
+none_runs : (slots : List Slot) (j : ℕ) → count_by is_running slots ≡ 0 →
+    is_running (slot_at slots j) ≡ false
 none_runs [] j none = refl
 none_runs (Ended ∷ slots) zero none = refl
 none_runs (Pending mode ∷ slots) zero none = refl

@@ -1,5 +1,7 @@
 -- What each event of a run does, and what whole runs keep.
-use Rattle.std.proofs.Common.{◌≡◌, ℕ, ◌+◌, ◌*◌, ◌/◌, ◌<◌, ◌≤◌, Bool, true, false, ◌&&◌, ◌||◌, not, List, [], ◌∷◌, ◌++◌, length, map, refl, sym, ap, ◌∙◌, subst, ◌⊎◌, inl, inr, ⊎_elim, arith}
+use Rattle.std.proofs.Common.{◌≡◌, ℕ, ◌+◌, ◌*◌, ◌/◌, ◌<◌, ◌≤◌, Bool, true, false, ◌&&◌, ◌||◌, not, List, []}
+use Rattle.std.proofs.Common.{◌∷◌, ◌++◌, length, map, refl, sym, ap, ◌∙◌, subst, ◌⊎◌, inl, inr, ⊎_elim}
+use Rattle.std.proofs.Common.{arith}
 use Rattle.std.specs.List.{range_with_len, list_all, list_any}
 use Rattle.std.proofs.lemmas.Nat.{div-mul-add}
 use Rattle.compat_scheduler.specs.declared.ticket.Ticket.{Ticket}
@@ -7,7 +9,8 @@ use Rattle.compat_scheduler.specs.Settings.{Setting, copies}
 use Rattle.compat_scheduler.specs.Machines.{Machine, slot_of, round_begun, beginning}
 use Rattle.compat_scheduler.specs.Finishes.{is_ended, stops, settled, slot_finished}
 use Rattle.compat_scheduler.specs.Soundness.{IsSound}
-use Rattle.compat_scheduler.specs.Runs.{Event, Leads, Runs, IsRun, started, ticket_of, round_of, RoundsRise, stops_it}
+use Rattle.compat_scheduler.specs.Runs.{Event, Leads, Runs, IsRun, started, ticket_of, round_of, RoundsRise}
+use Rattle.compat_scheduler.specs.Runs.{stops_it}
 use Rattle.compat_scheduler.specs.Runs.Event.{Start, Finish}
 use Rattle.compat_scheduler.proofs.SchedulerLemmas.{second_fails}
 use Rattle.compat_scheduler.proofs.SoundLemmas.{sound-starts, sound-finishes, within_slots}
@@ -125,7 +128,12 @@ pub slot_within : (s : Setting) (old : Machine) (event : Event) (new : Machine) 
     Leads s old event new →
     slot_of s (ticket_of event) < copies s
 slot_within s old (Start t) new sound leads =
-    omega (arith, sound.many, within_slots old.slots (slot_of s t) (ap is_ended leads.next.first.may.pending))
+    omega (
+      arith,
+      sound.many,
+      within_slots old.slots (slot_of s t)
+          (ap is_ended leads.next.first.may.pending),
+    )
 slot_within s old (Finish t end verdict) new sound leads =
     omega (arith, sound.many, within_slots old.slots (slot_of s t) (ap is_ended leads.judged.running.slot))
 
@@ -140,7 +148,8 @@ pub round_of_event : (s : Setting) (old : Machine) (event : Event) (new : Machin
     round_of s event ≡ old.round
 round_of_event s old event new sound leads =
     ap (λ (n : ℕ). n / copies s) (attempt_of_event s old event new leads)
-    ∙ div-mul-add old.round (copies s) (slot_of s (ticket_of event)) (slot_within s old event new sound leads)
+    ∙ div-mul-add old.round (copies s) (slot_of s (ticket_of event))
+    (slot_within s old event new sound leads)
 
 -- rounds never fall
 pub rounds_rise : (s : Setting) (low : ℕ) (events : List Event) (old new : Machine) → IsSound s old →

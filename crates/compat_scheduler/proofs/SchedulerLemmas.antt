@@ -1,5 +1,7 @@
 -- What a start and a finish do to a whole scheduler.
-use Rattle.std.proofs.Common.{◌≡◌, ◌≢◌, ℕ, ◌+◌, ◌*◌, ◌<◌, ◌≤◌, ◌^◌, Bool, true, false, ◌&&◌, ◌||◌, not, List, ◌++◌, take, drop, replicate, length, get_or, refl, sym, ap, ◌∙◌, subst, arith}
+use Rattle.std.proofs.Common.{◌≡◌, ◌≢◌, ℕ, ◌+◌, ◌*◌, ◌<◌, ◌≤◌, ◌^◌, Bool, true, false, ◌&&◌, ◌||◌, not}
+use Rattle.std.proofs.Common.{List, ◌++◌, take, drop, replicate, length, get_or, refl, sym, ap, ◌∙◌, subst}
+use Rattle.std.proofs.Common.{arith}
 use Rattle.std.specs.List.{list_all, sum_by, slice_set}
 use Rattle.std.proofs.Math.Nat.{add-mul, mul-le-mul_right}
 use Rattle.std.proofs.lemmas.List.{get_or_default, get_or-set_other, take_at, length-set, length-replicate}
@@ -12,12 +14,15 @@ use Rattle.compat_scheduler.specs.declared.slot.Slot.TheVariants.{Pending, Runni
 use Rattle.compat_scheduler.specs.declared.ticket.Ticket.{Ticket}
 use Rattle.compat_scheduler.specs.declared.ticket.FinishVerdict.{FinishVerdict}
 use Rattle.compat_scheduler.specs.Settings.{Setting, copies, beside}
-use Rattle.compat_scheduler.specs.Machines.{Machine, Scheduler, slot_at, slot_of, flag_of, beginning, IsRunning}
+use Rattle.compat_scheduler.specs.Machines.{Machine, Scheduler, slot_at, slot_of, flag_of, beginning}
+use Rattle.compat_scheduler.specs.Machines.{IsRunning}
 use Rattle.compat_scheduler.specs.Starts.{IsNext, RunsFrom, Starts, lowered}
-use Rattle.compat_scheduler.specs.Finishes.{is_ended, verdict_on, slot_after, stops, settled, slot_finished, IsVerdict, Finishes}
+use Rattle.compat_scheduler.specs.Finishes.{is_ended, verdict_on, slot_after, stops, settled, slot_finished}
+use Rattle.compat_scheduler.specs.Finishes.{IsVerdict, Finishes}
 use Rattle.compat_scheduler.specs.Soundness.{passes_within, IsScheduler}
 use Rattle.compat_scheduler.proofs.Sums.{one_not_ended}
-use Rattle.compat_scheduler.proofs.SoundLemmas.{passes_within_most, sound-beginning, sound-starts, sound-finishes}
+use Rattle.compat_scheduler.proofs.SoundLemmas.{passes_within_most, sound-beginning, sound-starts}
+use Rattle.compat_scheduler.proofs.SoundLemmas.{sound-finishes}
 
 -- a start, by what is read and written of the slots
 pub starts_written : (sched : Scheduler) (s : Setting) (old : Machine) (t : Ticket) (read new : List Slot)
@@ -47,7 +52,8 @@ pub starts_fit : (s : Setting) (m : Machine) → IsScheduler s m → m.round < s
 starts_fit s m scheduler left =
     let most : sum_by passes_within m.slots ≤ length m.slots * 2 =
     sum_by-le passes_within 2 m.slots (λ k d h. passes_within_most (get_or m.slots k d)) in
-    let rounds : (m.round + 1) * copies s ≤ s.rounds * copies s = mul-le-mul_right (copies s) (omega arith) in
+    let rounds : (m.round + 1) * copies s ≤ s.rounds * copies s =
+    mul-le-mul_right (copies s) (omega arith) in
     omega (
       arith,
       most,

@@ -38,4 +38,5 @@ at_each_slot P slots n long ended below j =
 -- what holds below a number and at it holds below the next
 pub one_further : (P : ℕ → Type 0) (n : ℕ) → ((j : ℕ) → j < n → P j) → P n → (j : ℕ) → j < n + 1 → P j
 one_further P n below here j h =
-    ⊎_elim (λ (e : j ≡ n). subst P (sym e) here) (λ (other : j ≡ n → ⊥). below j (omega arith)) (cases_eq j n)
+    ⊎_elim (λ (e : j ≡ n). subst P (sym e) here) (λ (other : j ≡ n → ⊥). below j (omega arith))
+    (cases_eq j n)

@@ -1,17 +1,20 @@
 -- A machine stays sound.
-use Rattle.std.proofs.Common.{◌≡◌, ℕ, ◌+◌, ◌*◌, ◌<◌, ◌≤◌, Bool, true, false, ◌&&◌, not, IsTrue, List, length, get_or, replicate, refl, sym, ap, ◌∙◌, subst, ⊎_elim, arith}
+use Rattle.std.proofs.Common.{◌≡◌, ℕ, ◌+◌, ◌*◌, ◌<◌, ◌≤◌, Bool, true, false, ◌&&◌, not, IsTrue, List}
+use Rattle.std.proofs.Common.{length, get_or, replicate, refl, sym, ap, ◌∙◌, subst, ⊎_elim, arith}
 use Rattle.std.specs.List.{list_all, sum_by, slice_set}
 use Rattle.std.proofs.lemmas.Bool.{cases_eq, cases_lt}
 use Rattle.std.proofs.lemmas.Bool.Decides.{nat_tests}
 use Rattle.std.specs.Prelude.{◌==◌, if◌then◌else◌}
 use Rattle.std.proofs.Math.Nat.{add-mul}
-use Rattle.std.proofs.lemmas.List.{length-replicate, get_or-replicate, get_or-set_same, get_or-set_other, length-set}
+use Rattle.std.proofs.lemmas.List.{length-replicate, get_or-replicate, get_or-set_same, get_or-set_other}
+use Rattle.std.proofs.lemmas.List.{length-set}
 use Rattle.std.proofs.lemmas.List.Sums.{sum_by-le, sum_by-set}
 use Rattle.seuss_base.specs.Levels.{IsAtLeast}
 use Rattle.seuss_base.specs.declared.level.Level.{Level}
 use Rattle.seuss_base.specs.declared.level.Level.TheVariants.{Never, Loose, Firm}
 use Rattle.seuss_base.specs.declared.outcome.PassEnd.{PassEnd}
-use Rattle.seuss_base.specs.declared.outcome.PassEnd.TheVariants.{Accepted, PlainRejected, Rejected, Trapped, Spent}
+use Rattle.seuss_base.specs.declared.outcome.PassEnd.TheVariants.{Accepted, PlainRejected, Rejected}
+use Rattle.seuss_base.specs.declared.outcome.PassEnd.TheVariants.{Trapped, Spent}
 use Rattle.compat_scheduler.specs.declared.slot.Slot.{Slot}
 use Rattle.compat_scheduler.specs.declared.slot.Slot.TheVariants.{Pending, Running, Ended}
 use Rattle.compat_scheduler.specs.declared.ticket.Ticket.{Ticket}
@@ -19,8 +22,10 @@ use Rattle.compat_scheduler.specs.declared.ticket.FinishVerdict.{FinishVerdict}
 use Rattle.compat_scheduler.specs.declared.ticket.FinishVerdict.TheVariants.{Kept, Void}
 use Rattle.compat_scheduler.specs.Settings.{Setting, copies, beside}
 use Rattle.compat_scheduler.specs.Machines.{Machine, slot_at, slot_of, round_begun, beginning}
-use Rattle.compat_scheduler.specs.Starts.{IsAllowedBeside, IsFirmBeside, IsFirmBesideAll, MayStart, RunsFrom, Starts, lowered}
-use Rattle.compat_scheduler.specs.Finishes.{is_ended, verdict_on, slot_after, settled, slot_finished, IsVerdict}
+use Rattle.compat_scheduler.specs.Starts.{IsAllowedBeside, IsFirmBeside, IsFirmBesideAll, MayStart}
+use Rattle.compat_scheduler.specs.Starts.{RunsFrom, Starts, lowered}
+use Rattle.compat_scheduler.specs.Finishes.{is_ended, verdict_on, slot_after, settled, slot_finished}
+use Rattle.compat_scheduler.specs.Finishes.{IsVerdict}
 use Rattle.compat_scheduler.specs.Soundness.{IsLawful, passes_within, IsSound}
 use Rattle.compat_scheduler.proofs.SlotLemmas.{slot_at_past}
 use Rattle.compat_scheduler.proofs.Sums.{sum_by_one_more, one_not_ended}

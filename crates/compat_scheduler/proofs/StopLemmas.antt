@@ -1,5 +1,6 @@
 -- The machine's stop, over whole runs.
-use Rattle.std.proofs.Common.{◌≡◌, Bool, true, false, ◌||◌, List, [], ◌∷◌, ◌++◌, refl, sym, ap, ◌∙◌, subst, ⊎_elim}
+use Rattle.std.proofs.Common.{◌≡◌, Bool, true, false, ◌||◌, List, [], ◌∷◌, ◌++◌, refl, sym, ap, ◌∙◌, subst}
+use Rattle.std.proofs.Common.{⊎_elim}
 use Rattle.std.specs.Prelude.{Contains}
 use Rattle.std.specs.List.{list_any}
 use Rattle.compat_scheduler.specs.Settings.{Setting}
@@ -9,7 +10,8 @@ use Rattle.compat_scheduler.specs.Soundness.{IsSound}
 use Rattle.compat_scheduler.specs.Runs.{Event, Leads, Runs, IsRun, started, round_of, stops_it}
 use Rattle.compat_scheduler.specs.Runs.Event.{Start, Finish}
 use Rattle.compat_scheduler.proofs.Memberships.{contains_nothing, contains_cases}
-use Rattle.compat_scheduler.proofs.RunLemmas.{sound-leads, stopped-settled, round-settled_stopped, round_of_event, stopped_runs, runs-append, stopped_by_runs}
+use Rattle.compat_scheduler.proofs.RunLemmas.{sound-leads, stopped-settled, round-settled_stopped}
+use Rattle.compat_scheduler.proofs.RunLemmas.{round_of_event, stopped_runs, runs-append, stopped_by_runs}
 
 -- where the front has stopped the machine, nothing starts in the rest
 pub nothing_starts : (s : Setting) (front rest : List Event) (m : Machine) → IsRun s (front ++ rest) m →

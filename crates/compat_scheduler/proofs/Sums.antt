@@ -1,5 +1,6 @@
 -- Sums over two lists that agree but at one place, and the test that all slots have ended.
-use Rattle.std.proofs.Common.{◌≡◌, ◌≢◌, ℕ, ◌+◌, ◌<◌, ◌≤◌, zero, suc, Bool, true, false, List, [], ◌∷◌, length, get_or, refl, ap, ⊎_elim, arith}
+use Rattle.std.proofs.Common.{◌≡◌, ◌≢◌, ℕ, ◌+◌, ◌<◌, ◌≤◌, zero, suc, Bool, true, false, List, [], ◌∷◌}
+use Rattle.std.proofs.Common.{length, get_or, refl, ap, ⊎_elim, arith}
 use Rattle.std.specs.List.{list_all, sum_by}
 use Rattle.std.proofs.lemmas.Bool.{cases_lt}
 use Rattle.std.proofs.lemmas.List.Folds.{list_all_at}
@@ -34,7 +35,8 @@ sum_by_one_more f d (x ∷ xs) (y ∷ ys) zero long within here others =
 sum_by_one_more f d (x ∷ xs) (y ∷ ys) (suc i) long within here others =
     let rest : sum_by f ys ≡ sum_by f xs + 1 = sum_by_one_more f d xs ys i (omega arith) (omega arith) here
     (λ j differ. others (suc j) (omega arith)) in
-    let first : f y ≡ f x = others zero (omega arith) in omega (arith, sum_by-cons f x xs, sum_by-cons f y ys)
+    let first : f y ≡ f x = others zero (omega arith) in
+    omega (arith, sum_by-cons f x xs, sum_by-cons f y ys)
 
 -- where one slot hasn't ended, not all have
 pub one_not_ended : (slots : List Slot) (j : ℕ) → is_ended (slot_at slots j) ≡ false →

@@ -3,7 +3,8 @@ use Rattle.std.specs.Prelude.{◌≡◌, ℕ, ◌+◌, Bool, true, false, ◌&&�
 use Rattle.std.specs.List.{list_all}
 use Rattle.seuss_base.specs.declared.level.Level.TheVariants.{Firm}
 use Rattle.seuss_base.specs.declared.outcome.PassEnd.{PassEnd}
-use Rattle.seuss_base.specs.declared.outcome.PassEnd.TheVariants.{Accepted, PlainRejected, Rejected, Trapped, Spent}
+use Rattle.seuss_base.specs.declared.outcome.PassEnd.TheVariants.{Accepted, PlainRejected, Rejected}
+use Rattle.seuss_base.specs.declared.outcome.PassEnd.TheVariants.{Trapped, Spent}
 use Rattle.compat_scheduler.specs.declared.slot.Slot.{Slot}
 use Rattle.compat_scheduler.specs.declared.slot.Slot.TheVariants.{Pending, Running, Ended}
 use Rattle.compat_scheduler.specs.declared.ticket.Ticket.{Ticket}

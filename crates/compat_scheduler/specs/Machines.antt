@@ -1,5 +1,6 @@
 -- The states of the scheduler's machine.
-use Rattle.std.specs.Prelude.{◌≡◌, ℕ, ◌+◌, ◌*◌, ◌%◌, ◌==◌, Bool, true, false, List, slice_index_or, replicate, count_by, if◌then◌else◌}
+use Rattle.std.specs.Prelude.{◌≡◌, ℕ, ◌+◌, ◌*◌, ◌%◌, ◌==◌, Bool, true, false, List, slice_index_or}
+use Rattle.std.specs.Prelude.{replicate, count_by, if◌then◌else◌}
 use Rattle.seuss_base.specs.declared.level.Level.TheVariants.{Loose}
 use Rattle.compat_scheduler.specs.declared.slot.Slot.{Slot}
 use Rattle.compat_scheduler.specs.declared.slot.Slot.TheVariants.{Pending, Running, Ended}

@@ -1,5 +1,6 @@
 -- Runs of the machine, and what the list of their events says.
-use Rattle.std.specs.Prelude.{◌≡◌, ℕ, ◌+◌, ◌*◌, ◌/◌, ◌%◌, ◌≤◌, ◌==◌, ◌&&◌, ◌||◌, nat_lt, Bool, false, List, [], ◌∷◌, Contains, if◌then◌else◌}
+use Rattle.std.specs.Prelude.{◌≡◌, ℕ, ◌+◌, ◌*◌, ◌/◌, ◌%◌, ◌≤◌, ◌==◌, ◌&&◌, ◌||◌, nat_lt, Bool, false, List}
+use Rattle.std.specs.Prelude.{[], ◌∷◌, Contains, if◌then◌else◌}
 use Rattle.seuss_base.specs.declared.outcome.PassEnd.{PassEnd}
 use Rattle.compat_scheduler.specs.declared.ticket.Ticket.{Ticket}
 use Rattle.compat_scheduler.specs.declared.ticket.FinishVerdict.{FinishVerdict}

@@ -1,6 +1,7 @@
 //! Laws of the machine, over every run from its beginning.
 
-ghost use Rattle.std.specs.Prelude.{◌≡◌, if◌then◌else◌, ℕ, ◌*◌, ◌<◌, ◌≤◌, false, ◌++◌, ◌∷◌, [], ◌⊎◌, IsTrue, List, map, Contains};
+ghost use Rattle.std.specs.Prelude.{◌≡◌, if◌then◌else◌, ℕ, ◌*◌, ◌<◌, ◌≤◌, false, ◌++◌, ◌∷◌, [], ◌⊎◌, IsTrue};
+ghost use Rattle.std.specs.Prelude.{List, map, Contains};
 ghost use Rattle.std.specs.List.{list_any, range_with_len};
 ghost use Rattle.seuss_base.specs.declared.level.Level.TheVariants.{Loose, Firm};
 ghost use Rattle.seuss_base.specs.declared.outcome.PassEnd.{PassEnd};
@@ -10,7 +11,8 @@ ghost use Rattle.seuss_base.specs.declared.outcome.PassEnd.TheVariants.{PlainRej
 ghost use Rattle.compat_scheduler.specs.Settings.{Setting, action_of, copies, level};
 ghost use Rattle.compat_scheduler.specs.Machines.{Machine, running_count, slot_of};
 ghost use Rattle.compat_scheduler.specs.Starts.{IsNext};
-ghost use Rattle.compat_scheduler.specs.Runs.{Event, IsRun, started, RoundsRise, round_of, stops_it, IsOpen, times_kept, has_ended};
+ghost use Rattle.compat_scheduler.specs.Runs.{Event, IsRun, started, RoundsRise, round_of, stops_it, IsOpen};
+ghost use Rattle.compat_scheduler.specs.Runs.{times_kept, has_ended};
 ghost use Rattle.seuss_base.specs.Levels.{IsAtLeast};
 ghost use Rattle.compat_scheduler.specs.Runs.Event.{Start, Finish};
 
@@ -22,7 +24,8 @@ pub fn passes_are_numbered()
 
 /// A mode is loose or firm, and a firm pass is never void.
 pub fn modes_are_lawful()
-    ensures loose_or_firm { (s : Setting) (events : List Event) (m : Machine) (t : Ticket) → IsRun s events m →
+    ensures loose_or_firm { (s : Setting) (events : List Event) (m : Machine) (t : Ticket) →
+        IsRun s events m →
         Contains events (Start t) → (t.mode ≡ Loose) ⊎ (t.mode ≡ Firm) }
     ensures void_is_loose { (s : Setting) (events : List Event) (m : Machine) (t : Ticket) (end : PassEnd) →
         IsRun s events m → Contains events (Finish t end Void) → t.mode ≡ Loose }
@@ -37,9 +40,10 @@ pub fn rounds_dont_interleave()
 pub fn stops_for_good()
     ensures stopped { (s : Setting) (events : List Event) (m : Machine) → IsRun s events m →
         m.stopped ≡ list_any stops_it events }
-    ensures nothing_starts { (s : Setting) (front rest : List Event) (m : Machine) → IsRun s (front ++ rest) m →
-        IsTrue (list_any stops_it front) → started rest ≡ [] }
-    ensures last_round { (s : Setting) (events : List Event) (m : Machine) (event : Event) → IsRun s events m →
+    ensures nothing_starts { (s : Setting) (front rest : List Event) (m : Machine) →
+        IsRun s (front ++ rest) m → IsTrue (list_any stops_it front) → started rest ≡ [] }
+    ensures last_round { (s : Setting) (events : List Event) (m : Machine) (event : Event) →
+        IsRun s events m →
         Contains events event → IsTrue (stops_it event) → round_of s event ≡ m.round }
 {}
 

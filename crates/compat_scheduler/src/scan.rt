@@ -3,7 +3,8 @@
 ghost use Rattle.std.specs.Prelude.{◌≡◌, ◌≢◌, ℕ, ◌<◌, ◌↔◌, IsTrue, length, MatchOption};
 ghost use Rattle.compat_scheduler.specs.Settings.{beside, copies};
 ghost use Rattle.compat_scheduler.specs.Machines.{slot_at};
-ghost use Rattle.compat_scheduler.specs.Starts.{IsAllowedBeside, MayStart, IsFirst, IsFirmBeside, IsFirmBesideAll, RunsFrom, lowered};
+ghost use Rattle.compat_scheduler.specs.Starts.{IsAllowedBeside, MayStart, IsFirst, IsFirmBeside};
+ghost use Rattle.compat_scheduler.specs.Starts.{IsFirmBesideAll, RunsFrom, lowered};
 
 use crate::Slot;
 use crate::setting::Setting;

@@ -31,9 +31,14 @@ impl Model for SchedCore {
 
     ghost Value = { Scheduler };
 
-    ghost view = { λ c. record { setting = c.setting; machine = record { round = c.round; starts = c.starts; stopped = c.stopped; slots = c.slots.items } } };
+    ghost view = { λ c. record {
+      setting = c.setting;
+      machine = record
+          { round = c.round; starts = c.starts; stopped = c.stopped; slots = c.slots.items };
+    } };
 
-    ghost invariant = { λ c. IsScheduler c.setting (record { round = c.round; starts = c.starts; stopped = c.stopped; slots = c.slots.items }) };
+    ghost invariant = { λ c. IsScheduler c.setting
+        (record { round = c.round; starts = c.starts; stopped = c.stopped; slots = c.slots.items }) };
 }
 
 impl SchedCore {
@@ -84,7 +89,8 @@ impl SchedCore {
     /// attempt that waits is barred by one that runs.
     pub fn start(&mut self) -> Option<Ticket>
         ensures setting { self.new.setting ≡ self.old.setting }
-        ensures machine { MatchOption result (NoneStarts self.old.setting self.old.machine × (self.new.machine
+        ensures machine { MatchOption result
+            (NoneStarts self.old.setting self.old.machine × (self.new.machine
             ≡ self.old.machine))
             (λ ticket. Starts self.old.setting self.old.machine ticket self.new.machine) }
         ensures running { IfSome result (IsRunning self.new.setting self.new.machine) }

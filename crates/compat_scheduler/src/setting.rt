@@ -24,7 +24,8 @@ impl Model for Setting {
 
     ghost view = { λ s. record { levels = s.rows; actions = s.actions.items; rounds = s.rounds } };
 
-    ghost invariant = { λ s. All (λ action. action < s.rows.count) s.actions.items × (s.rounds * length s.actions.items ≤ 10000000) × (length s.actions.items < 2 ^ 32) };
+    ghost invariant = { λ s. All (λ action. action < s.rows.count) s.actions.items
+        × (s.rounds * length s.actions.items ≤ 10000000) × (length s.actions.items < 2 ^ 32) };
 }
 
 impl Setting {

@@ -15,7 +15,7 @@ pub struct Ticket {
 pub enum FinishVerdict {
     /// Its attempt has ended.
     Kept,
-    /// It was plainly rejected beside a pass beside which it isn't firm-safe, and its attempt is tried again in
-    /// mode firm.
+    /// It was plainly rejected beside a pass beside which it isn't firm-safe, and its attempt is tried
+    /// again in mode firm.
     Void,
 }

@@ -1,5 +1,6 @@
 -- The value of an expression depends on the variables that stand in it.
-use Rattle.std.proofs.Common.{◌≡◌, ℕ, pos, neg_ℤ, Bool, true, false, ◌||◌, not, if◌then◌else◌, List, [], ◌∷◌, ◌++◌, Ok, Err, refl, sym, ap, ◌∙◌, subst, get_or}
+use Rattle.std.proofs.Common.{◌≡◌, ℕ, pos, neg_ℤ, Bool, true, false, ◌||◌, not, if◌then◌else◌, List, []}
+use Rattle.std.proofs.Common.{◌∷◌, ◌++◌, Ok, Err, refl, sym, ap, ◌∙◌, subst, get_or}
 use Rattle.std.specs.Prelude.{slice_get, unwrap_or}
 use Rattle.std.proofs.lemmas.Option.{unwrap_or-slice_get}
 use Rattle.std.proofs.lemmas.Bool.{eq-eqb}
@@ -13,7 +14,8 @@ use Rattle.seuss_program.specs.declared.tree.Node.TheOpen.{Node-F}
 use Rattle.seuss_program.specs.declared.tree.Expr.{Expr, fold_out-Expr, ind-Expr, roll-Expr, map-Expr}
 use Rattle.seuss_program.specs.declared.state.Value.{Value}
 use Rattle.seuss_program.specs.declared.state.Value.TheVariants as V
-use Rattle.seuss_program.specs.Values.{Evaluated, Part, part_of, node_part, value, apply, exact, measure, exact_length, named, and_then, both, int_of, bool_of, seq_of}
+use Rattle.seuss_program.specs.Values.{Evaluated, Part, part_of, node_part, value, apply, exact, measure}
+use Rattle.seuss_program.specs.Values.{exact_length, named, and_then, both, int_of, bool_of, seq_of}
 use Rattle.seuss_program.specs.Bodies.{arguments, arguments_after, argument_then}
 use Rattle.effect_sets.specs.Effects.{is_variable, node_mentions, mentions, any_mentions}
 

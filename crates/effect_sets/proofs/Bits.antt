@@ -1,5 +1,7 @@
 -- The sets of the code as numbers, and what stands in them.
-use Rattle.std.proofs.Common.{◌≡◌, ℕ, zero, suc, ◌<◌, ◌^◌, nat_lt, Bool, true, false, ◌||◌, ◌==◌, if◌then◌else◌, List, [], ◌∷◌, Option, None, Some, refl, sym, ap, ◌∙◌, subst, arith, max}
+use Rattle.std.proofs.Common.{◌≡◌, ℕ, zero, suc, ◌<◌, ◌^◌, nat_lt, Bool, true, false, ◌||◌, ◌==◌}
+use Rattle.std.proofs.Common.{if◌then◌else◌, List, [], ◌∷◌, Option, None, Some, refl, sym, ap, ◌∙◌, subst}
+use Rattle.std.proofs.Common.{arith, max}
 use Rattle.std.specs.Prelude.{bit_or}
 use Rattle.std.specs.Int.{bit_at}
 use Rattle.std.specs.List.{list_any}
@@ -17,8 +19,11 @@ use Rattle.method_code.specs.declared.method.Entry.{Entry}
 use Rattle.method_code.specs.declared.method.Entry.TheVariants as E
 use Rattle.method_code.specs.declared.method.Head.{Head}
 use Rattle.effect_sets.specs.Effects.{has_bit, is_variable, binds, node_mentions, mentions, any_mentions}
-use Rattle.effect_sets.specs.Masks.{bit, name_mask, bound_mask, node_mask, mask, add_masks, read_mask, written_mask, add_read, add_written, early_mask, head_mask, add_tested, tested_mask}
-use Rattle.effect_sets.proofs.CodeSets.{instruction_reads, instruction_writes, early_mentions, head_tests, entry_tests}
+use Rattle.effect_sets.specs.Masks.{bit, name_mask, bound_mask, node_mask, mask, add_masks, read_mask}
+use Rattle.effect_sets.specs.Masks.{written_mask, add_read, add_written, early_mask, head_mask, add_tested}
+use Rattle.effect_sets.specs.Masks.{tested_mask}
+use Rattle.effect_sets.proofs.CodeSets.{instruction_reads, instruction_writes, early_mentions, head_tests}
+use Rattle.effect_sets.proofs.CodeSets.{entry_tests}
 use Rattle.effect_sets.proofs.Masking.{mask_of, mask-expr, mask-roll}
 use Rattle.effect_sets.proofs.FormSets.{or_false}
 use Rattle.effect_sets.proofs.Agreeing.{node_has, has-roll, has-expr}

@@ -1,5 +1,6 @@
 -- The variables that code reads and writes.
-use Rattle.std.proofs.Common.{◌≡◌, ℕ, zero, suc, Bool, true, false, ◌||◌, List, [], ◌∷◌, drop, Option, None, Some}
+use Rattle.std.proofs.Common.{◌≡◌, ℕ, zero, suc, Bool, true, false, ◌||◌, List, [], ◌∷◌, drop, Option, None}
+use Rattle.std.proofs.Common.{Some}
 use Rattle.std.specs.List.{list_any}
 use Rattle.method_code.specs.declared.instruction.CallCode.{CallCode}
 use Rattle.method_code.specs.declared.instruction.Instruction.{Instruction}

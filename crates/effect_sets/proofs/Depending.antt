@@ -1,5 +1,7 @@
 -- What a step of a procedure depends on, by the procedure's text.
-use Rattle.std.proofs.Common.{◌≡◌, ℕ, zero, suc, ◌<◌, ◌⊎◌, inl, inr, Bool, true, false, ◌||◌, ◌==◌, List, [], ◌∷◌, length, Option, None, Some, Result, Ok, Err, refl, sym, ap, ◌∙◌, subst, subst₂, true≢false, arith}
+use Rattle.std.proofs.Common.{◌≡◌, ℕ, zero, suc, ◌<◌, ◌⊎◌, inl, inr, Bool, true, false, ◌||◌, ◌==◌, List}
+use Rattle.std.proofs.Common.{[], ◌∷◌, length, Option, None, Some, Result, Ok, Err, refl, sym, ap, ◌∙◌}
+use Rattle.std.proofs.Common.{subst, subst₂, true≢false, arith}
 use Rattle.std.specs.Prelude.{slice_get, option_map}
 use Rattle.std.specs.List.{list_any}
 use Rattle.std.proofs.lemmas.Bool.{eq-eqb}
@@ -23,8 +25,10 @@ use Rattle.method_code.specs.Codes.{entry_of, form_code, method_code, compiled, 
 use Rattle.method_code.specs.Steps as T
 use Rattle.method_code.specs.Steps.{Stepped, step, step_in, runs, chosen_head, entered, from_place}
 use Rattle.method_code.specs.Kinds as J
-use Rattle.method_code.specs.Kinds.{Kind, Early, Commit, Late, kind_by, kind_of, is_late, calls_early, begins_total}
-use Rattle.method_code.specs.Frames.{IsPlace, Entry as AtStart, Rejection, Result as AtResult, Return as AtReturn, TakesAt}
+use Rattle.method_code.specs.Kinds.{Kind, Early, Commit, Late, kind_by, kind_of, is_late, calls_early}
+use Rattle.method_code.specs.Kinds.{begins_total}
+use Rattle.method_code.specs.Frames.{IsPlace, Entry as AtStart, Rejection, Result as AtResult}
+use Rattle.method_code.specs.Frames.{Return as AtReturn, TakesAt}
 use Rattle.method_code.specs.Beside.{SameResult, MayBegin, AtEntry, AtPlace}
 use Rattle.method_code.proofs.IdleSteps.{runs_quiet, early_reads}
 use Rattle.method_code.proofs.NumberLemmas.{code-found}
@@ -32,7 +36,8 @@ use Rattle.effect_sets.specs.Effects.{tests, reads, has_late}
 use Rattle.effect_sets.specs.Depends.{StaysInSets, EarlyStaysInTests}
 use Rattle.effect_sets.proofs.Agreeing.{Near, or_left, or_right}
 use Rattle.effect_sets.proofs.CodeSets.{Inside, instruction_reads, early_mentions, entry_tests}
-use Rattle.effect_sets.proofs.Running.{Steps, placed_alike, chosen_same, chosen_tests, HeadTests, early_alike}
+use Rattle.effect_sets.proofs.Running.{Steps, placed_alike, chosen_same, chosen_tests, HeadTests}
+use Rattle.effect_sets.proofs.Running.{early_alike}
 use Rattle.effect_sets.proofs.Keeping.{placed_stays, placed_many}
 use Rattle.effect_sets.proofs.FormSets.{tests_is, reads_is, writes_is, takes_is, is_take}
 

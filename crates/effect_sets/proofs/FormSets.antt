@@ -1,5 +1,6 @@
 -- What the code of a procedure reads, writes and consists of is what its text does.
-use Rattle.std.proofs.Common.{◌≡◌, ℕ, ◌+◌, Bool, true, false, ◌||◌, ◌&&◌, not, if◌then◌else◌, List, [], ◌∷◌, ◌++◌, map, length, Option, None, Some, refl, sym, ap, ◌∙◌, subst}
+use Rattle.std.proofs.Common.{◌≡◌, ℕ, ◌+◌, Bool, true, false, ◌||◌, ◌&&◌, not, if◌then◌else◌, List, [], ◌∷◌}
+use Rattle.std.proofs.Common.{◌++◌, map, length, Option, None, Some, refl, sym, ap, ◌∙◌, subst}
 use Rattle.std.specs.Prelude.{is_none, is_some}
 use Rattle.std.specs.List.{flat_map, list_any}
 use Rattle.std.proofs.lemmas.List.Folds.{list_any-append}
@@ -11,19 +12,27 @@ use Rattle.seuss_program.specs.declared.tree.Pre.{Pre}
 use Rattle.seuss_program.specs.declared.tree.Alternative.{Alternative}
 use Rattle.seuss_program.specs.declared.tree.Form.{Form}
 use Rattle.seuss_program.specs.declared.tree.Form.TheVariants as F
-use Rattle.seuss_program.specs.declared.tree.Statement.{Statement, fold-Statement, fold-roll-Statement, map-Statement, roll-Statement, ind-Statement}
+use Rattle.seuss_program.specs.declared.tree.Statement.{Statement, fold-Statement, fold-roll-Statement}
+use Rattle.seuss_program.specs.declared.tree.Statement.{map-Statement, roll-Statement, ind-Statement}
 use Rattle.seuss_program.specs.declared.tree.Statement.TheOpen as S
 use Rattle.seuss_program.specs.declared.tree.Statement.TheOpen.{Statement-F}
 use Rattle.seuss_program.specs.Lines.{calls_step, calls_of, body_calls, pre_calls}
 use Rattle.seuss_program.specs.Keeping.{all_true}
 use Rattle.method_code.specs.declared.instruction.Instruction.{Instruction}
 use Rattle.method_code.specs.declared.instruction.Instruction.TheVariants as I
-use Rattle.method_code.specs.Codes.{call_code, joined, code_step, code_of, early_of, take_code, last_code, alternative_code, heads, entry_of, form_code}
-use Rattle.method_code.specs.Singles.{single_step, is_single_statement, is_single_body, are_single, is_single}
+use Rattle.method_code.specs.Codes.{call_code, joined, code_step, code_of, early_of, take_code, last_code}
+use Rattle.method_code.specs.Codes.{alternative_code, heads, entry_of, form_code}
+use Rattle.method_code.specs.Singles.{single_step, is_single_statement, is_single_body, are_single}
+use Rattle.method_code.specs.Singles.{is_single}
 use Rattle.method_code.proofs.Statements.{each, each_each, code-layer}
-use Rattle.effect_sets.specs.Effects.{some_true, mentions, any_mentions, reads_step, statement_reads, writes_step, statement_writes, body_reads, body_writes, pre_mentions, pre_binds, binds, alternatives_test, alternatives_read, alternatives_write, tests, reads, writes, is_some_call, has_early, has_late}
+use Rattle.effect_sets.specs.Effects.{some_true, mentions, any_mentions, reads_step, statement_reads}
+use Rattle.effect_sets.specs.Effects.{writes_step, statement_writes, body_reads, body_writes, pre_mentions}
+use Rattle.effect_sets.specs.Effects.{pre_binds, binds, alternatives_test, alternatives_read}
+use Rattle.effect_sets.specs.Effects.{alternatives_write, tests, reads, writes, is_some_call, has_early}
+use Rattle.effect_sets.specs.Effects.{has_late}
 use Rattle.effect_sets.specs.Masks.{is_call, is_again, is_early, calls_first}
-use Rattle.effect_sets.proofs.CodeSets.{instruction_reads, instruction_writes, early_mentions, head_tests, entry_tests}
+use Rattle.effect_sets.proofs.CodeSets.{instruction_reads, instruction_writes, early_mentions, head_tests}
+use Rattle.effect_sets.proofs.CodeSets.{entry_tests}
 
 pub or_false : (b : Bool) → (b || false) ≡ b
 or_false true = refl

@@ -1,5 +1,6 @@
 -- What a step keeps of the variables: all that setting a variable that its code writes keeps.
-use Rattle.std.proofs.Common.{◌≡◌, ℕ, zero, suc, ◌-◌, Bool, true, false, List, [], ◌∷◌, length, drop, Option, None, Some, Result, Ok, Err, refl, sym, ap, ◌∙◌, arith}
+use Rattle.std.proofs.Common.{◌≡◌, ℕ, zero, suc, ◌-◌, Bool, true, false, List, [], ◌∷◌, length, drop}
+use Rattle.std.proofs.Common.{Option, None, Some, Result, Ok, Err, refl, sym, ap, ◌∙◌, arith}
 use Rattle.std.specs.Prelude.{slice_get, slice_set}
 use Rattle.std.proofs.lemmas.Bool.{eq-eqb}
 use Rattle.std.proofs.lemmas.List.{length-set}
@@ -23,7 +24,9 @@ use Rattle.method_code.specs.declared.method.Head.{Head}
 use Rattle.method_code.specs.declared.frame.End.{End}
 use Rattle.method_code.specs.declared.frame.End.TheVariants as E
 use Rattle.method_code.specs.Steps as T
-use Rattle.method_code.specs.Steps.{Acted, acted, put, put_value, last_number, all_but_last, Halted, walk, walked, Stepped, leaves, paid, settled, runs, chosen_head, called_early, entered, from_place}
+use Rattle.method_code.specs.Steps.{Acted, acted, put, put_value, last_number, all_but_last, Halted, walk}
+use Rattle.method_code.specs.Steps.{walked, Stepped, leaves, paid, settled, runs, chosen_head, called_early}
+use Rattle.method_code.specs.Steps.{entered, from_place}
 use Rattle.effect_sets.proofs.Agreeing.{or_left, or_right}
 use Rattle.effect_sets.proofs.CodeSets.{Inside, rest_inside, instruction_writes}
 

@@ -8,7 +8,9 @@ use Rattle.seuss_program.specs.declared.tree.Node.{Node, fold-Node, fold-roll-No
 use Rattle.seuss_program.specs.declared.tree.Node.TheOpen as N
 use Rattle.seuss_program.specs.declared.tree.Node.TheOpen.{Node-F}
 use Rattle.seuss_program.specs.declared.tree.Node.TheVariants as V
-use Rattle.seuss_program.specs.declared.tree.Node.TheVariants.{rolls-Int, rolls-Bool, rolls-Empty, rolls-Name, rolls-Neg, rolls-Not, rolls-Two, rolls-One}
+use Rattle.seuss_program.specs.declared.tree.Node.TheVariants.{rolls-Int, rolls-Bool, rolls-Empty}
+use Rattle.seuss_program.specs.declared.tree.Node.TheVariants.{rolls-Name, rolls-Neg, rolls-Not, rolls-Two}
+use Rattle.seuss_program.specs.declared.tree.Node.TheVariants.{rolls-One}
 use Rattle.seuss_program.specs.declared.tree.Expr.{Expr, fold_out-Expr}
 use Rattle.effect_sets.specs.Masks.{name_mask, node_mask, mask}
 

@@ -1,5 +1,6 @@
 -- Steps of code on variables that agree where the code reads them.
-use Rattle.std.proofs.Common.{◌≡◌, ℕ, zero, suc, ◌-◌, Bool, true, false, if◌then◌else◌, List, [], ◌∷◌, drop, Option, None, Some, Result, Ok, Err, refl, ap, ◌∙◌, subst}
+use Rattle.std.proofs.Common.{◌≡◌, ℕ, zero, suc, ◌-◌, Bool, true, false, if◌then◌else◌, List, [], ◌∷◌, drop}
+use Rattle.std.proofs.Common.{Option, None, Some, Result, Ok, Err, refl, ap, ◌∙◌, subst}
 use Rattle.std.specs.Prelude.{slice_get, slice_set}
 use Rattle.seuss_base.specs.declared.outcome.Trap.{Trap}
 use Rattle.std.specs.List.{list_any}
@@ -21,10 +22,13 @@ use Rattle.method_code.specs.declared.method.Head.{Head}
 use Rattle.method_code.specs.declared.frame.End.{End}
 use Rattle.method_code.specs.declared.frame.End.TheVariants as E
 use Rattle.method_code.specs.Steps as T
-use Rattle.method_code.specs.Steps.{Acted, acted, acts, put, put_value, decided, called_with, last_number, all_but_last, Halted, walk, walked, Stepped, leaves, paid, settled, runs, chosen_head, judged_head, called_early, entered, from_place}
+use Rattle.method_code.specs.Steps.{Acted, acted, acts, put, put_value, decided, called_with, last_number}
+use Rattle.method_code.specs.Steps.{all_but_last, Halted, walk, walked, Stepped, leaves, paid, settled}
+use Rattle.method_code.specs.Steps.{runs, chosen_head, judged_head, called_early, entered, from_place}
 use Rattle.effect_sets.specs.Effects.{mentions, any_mentions}
 use Rattle.effect_sets.proofs.Agreeing.{Near, or_left, or_right, value_same, arguments_same}
-use Rattle.effect_sets.proofs.CodeSets.{Inside, rest_inside, instruction_reads, early_mentions, head_tests, entry_tests}
+use Rattle.effect_sets.proofs.CodeSets.{Inside, rest_inside, instruction_reads, early_mentions, head_tests}
+use Rattle.effect_sets.proofs.CodeSets.{entry_tests}
 
 -- a variable that is set: both lists keep what they have there, or have the new value
 set_near : (vars others : List Value) (n v : ℕ) (x : Value) → slice_get vars v ≡ slice_get others v →

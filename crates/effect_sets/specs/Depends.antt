@@ -16,7 +16,8 @@ pub record Agree (set : ℕ → Bool) (vars others : List Value) : Type 0 where
   pub values : (v : ℕ) → set v ≡ true → slice_get vars v ≡ slice_get others v
 
 -- A step of a procedure, from a frame and a budget: its result depends on the variables that the procedure
--- reads; a variable after it, on these and on its own value before; and variables that it doesn't write stay.
+-- reads; a variable after it, on these and on its own value before; and variables that it doesn't write
+-- stay.
 pub record StaysInSets (code : List Method) (form : Form Ref) (frame : Frame) (budget : ℕ) : Type 0 where
   pub result : (vars others : List Value) → Agree (λ v. reads v form) vars others →
       SameResult (step code frame budget vars) (step code frame budget others)

@@ -1,5 +1,6 @@
 -- Sets of variables as numbers: the bit of value 2 ^ v says that variable v is in the set.
-use Rattle.std.specs.Prelude.{ℕ, ◌^◌, nat_lt, Bool, true, false, if◌then◌else◌, List, [], ◌∷◌, Option, None, Some, is_some, not, ◌||◌, bit_or}
+use Rattle.std.specs.Prelude.{ℕ, ◌^◌, nat_lt, Bool, true, false, if◌then◌else◌, List, [], ◌∷◌, Option, None}
+use Rattle.std.specs.Prelude.{Some, is_some, not, ◌||◌, bit_or}
 use Rattle.std.specs.List.{list_any}
 use Rattle.seuss_program.specs.declared.tree.Ref.{Ref}
 use Rattle.seuss_program.specs.declared.tree.Ref.TheVariants as R

@@ -1,6 +1,7 @@
 ghost use Rattle.std.specs.Prelude.{◌≡◌};
 ghost use Rattle.std.specs.List.{list_any};
-ghost use Rattle.effect_sets.specs.Masks.{early_mask, head_mask, add_tested, tested_mask, is_early, calls_first as calls_at_first};
+ghost use Rattle.effect_sets.specs.Masks.{early_mask, head_mask, add_tested, tested_mask, is_early};
+ghost use Rattle.effect_sets.specs.Masks.{calls_first as calls_at_first};
 
 use crate::mentions::{mentioned, mentioned_in};
 use method_code::{CallCode, Entry, Head};

@@ -32,7 +32,8 @@ fn effects_of(method: &Method) -> Effects
 
 /// The effects of a procedure, by its number over all cats. One that isn't there has none.
 pub fn effects(code: &Code, method: u32) -> Effects
-    ensures of_procedure { (q : Proc Ref) → slice_get code.now method ≡ Some (method_code q) → IsEffects q result }
+    ensures of_procedure { (q : Proc Ref) → slice_get code.now method ≡ Some (method_code q) →
+        IsEffects q result }
     ensures in_program { (p : Program) (box number : ℕ) (q : Proc Ref) → code.now ≡ compiled p →
         procedure_of p box number ≡ Some q → method ≡ number_of p box number → IsEffects q result }
     ensures past_the_last { slice_get code.now method ≡ None → result ≡ no_effects }

@@ -21,9 +21,11 @@ ghost use Rattle.effect_sets.specs.Depends.{Agree, StaysInSets, EarlyStaysInTest
 
 /// The value of an expression, and those of arguments, depend on the variables that stand in them.
 pub fn values_depend_on_mentions()
-    ensures expression { (e : Expr Ref) (vars others slots : List Value) → Agree (λ v. mentions v e) vars others →
+    ensures expression { (e : Expr Ref) (vars others slots : List Value) →
+        Agree (λ v. mentions v e) vars others →
         value e vars slots ≡ value e others slots }
-    ensures arguments { (es : List (Expr Ref)) (vars others slots : List Value) → Agree (λ v. any_mentions v es) vars others →
+    ensures arguments { (es : List (Expr Ref)) (vars others slots : List Value) →
+        Agree (λ v. any_mentions v es) vars others →
         arguments es vars slots ≡ arguments es others slots }
 {}
 
@@ -50,7 +52,9 @@ pub fn later_places_are_behind_calls()
 /// A late step is one of a total method, one behind a call, or one from the place at which a procedure goes
 /// on where a preprocedure rejected.
 pub fn late_steps_are_behind_calls()
-    ensures { (p : Program) (box number : ℕ) (q : Proc Ref) (frame : Frame) → procedure_of p box number ≡ Some q →
+    ensures { (p : Program) (box number : ℕ) (q : Proc Ref) (frame : Frame) →
+        procedure_of p box number ≡ Some q →
         MayBegin p box number q frame → is_late (compiled p) frame ≡ true →
-        (is_total q.form ≡ true) ⊎ ((has_late q.form ≡ true) ⊎ ((frame.place ≡ 1) × (is_total q.form ≡ false))) }
+        (is_total q.form ≡ true) ⊎
+        ((has_late q.form ≡ true) ⊎ ((frame.place ≡ 1) × (is_total q.form ≡ false))) }
 {}

@@ -10,10 +10,13 @@ ghost use Rattle.seuss_program.specs.declared.tree.Kind.TheVariants as K;
 ghost use Rattle.seuss_program.specs.declared.tree.Node.TheVariants as N;
 ghost use Rattle.seuss_program.specs.declared.tree.Op.{Op};
 ghost use Rattle.seuss_program.specs.declared.tree.Ref.{Ref};
-ghost use Rattle.seuss_program.specs.Values.{and_then, bool_of, both, exact, int_of, measure, named, part_of, seq_of, value};
+ghost use Rattle.seuss_program.specs.Values.{and_then, bool_of, both, exact, int_of, measure, named};
+ghost use Rattle.seuss_program.specs.Values.{part_of};
+ghost use Rattle.seuss_program.specs.Values.{seq_of, value};
 ghost use Rattle.seuss_program.specs.Keeping.{Scope, kind_at, kind_in, two_kind};
 
-/// The value of an expression, by the values of its parts. What two parts mean under an operator is in `both`.
+/// The value of an expression, by the values of its parts. What two parts mean under an operator is in
+/// `both`.
 pub fn expressions_mean()
     ensures number { (e : Expr Ref) (z : ℤ) (vars slots : List Value) → e.node ≡ N.Int z →
         value e vars slots ≡ Ok (V.Int z) }

@@ -13,7 +13,8 @@ ghost use Rattle.seuss_program.specs.Programs.{cat_of, procedure_of, vars_of};
 ghost use Rattle.seuss_program.specs.Bodies.{statement, body};
 ghost use Rattle.seuss_program.specs.Attempts.{action_attempt, attempt, entry_slots, result_of, tight};
 ghost use Rattle.seuss_program.specs.Initials.{initial};
-ghost use Rattle.seuss_program.specs.Keeping.{HasForm, Keeps, body_fits, param_kinds, scope_of, slot_kinds, statement_fits};
+ghost use Rattle.seuss_program.specs.Keeping.{HasForm, Keeps, body_fits, param_kinds, scope_of, slot_kinds};
+ghost use Rattle.seuss_program.specs.Keeping.{statement_fits};
 ghost use Rattle.meaning_laws.specs.Forms.{AreFormed, HasResult, LeavesFormed};
 ghost use Rattle.meaning_laws.specs.Kinds.{HaveKinds};
 
@@ -33,7 +34,8 @@ pub fn bodies_keep_form()
 {}
 
 /// The variables of a box have their kinds in a state of the program's form, and so have the slots at an
-/// entry where the arguments have those of the parameters. The result is the int in its slot, which is there.
+/// entry where the arguments have those of the parameters. The result is the int in its slot, which is
+/// there.
 pub fn places_are_there()
     ensures variables { (p : Program) (box : ℕ) (c : Cat Ref) (q : Proc Ref) (state : State) →
         cat_of p box ≡ Some c → HasForm p state →
@@ -45,8 +47,8 @@ pub fn places_are_there()
 {}
 
 /// An attempt of a procedure with arguments of its parameters' kinds leaves a state of the program's form,
-/// and has a result exactly where it is accepted and the procedure gives one. Attempts of actions and runs of
-/// them leave such a state, too.
+/// and has a result exactly where it is accepted and the procedure gives one. Attempts of actions and runs
+/// of them leave such a state, too.
 pub fn attempts_keep_form()
     ensures state { (p : Program) (depth box number : ℕ) (q : Proc Ref) (args : List Value) (state : State)
         (budget : ℕ) →

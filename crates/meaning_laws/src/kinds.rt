@@ -9,8 +9,8 @@ ghost use Rattle.seuss_program.specs.Values.{value, named};
 ghost use Rattle.seuss_program.specs.Keeping.{Scope, kind_of, kind_in, kind_at, kind_set};
 ghost use Rattle.meaning_laws.specs.Kinds.{HaveKinds, standing};
 
-/// The value of an expression that has a kind is a trap or a value of this kind. Since each part has the kind
-/// that is wanted there (`parts_have_kinds`), no part of a wrong kind is ever met.
+/// The value of an expression that has a kind is a trap or a value of this kind. Since each part has the
+/// kind that is wanted there (`parts_have_kinds`), no part of a wrong kind is ever met.
 pub fn values_have_kinds()
     ensures { (s : Scope) (e : Expr Ref) (k : Kind) (vars slots : List Value) → kind_in s e ≡ Some k →
         HaveKinds vars s.vars → HaveKinds slots s.slots → IfOk (value e vars slots) (λ v. kind_of v ≡ k) }

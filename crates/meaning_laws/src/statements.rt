@@ -12,7 +12,8 @@ ghost use Rattle.seuss_program.specs.declared.tree.Statement.{Statement};
 ghost use Rattle.seuss_program.specs.declared.tree.Statement.TheVariants as S;
 ghost use Rattle.seuss_program.specs.Programs.{vars_of};
 ghost use Rattle.seuss_program.specs.Values.{value};
-ghost use Rattle.seuss_program.specs.Bodies.{Callee, arguments, body, branched, call_with, evaluated_into, looped, statement};
+ghost use Rattle.seuss_program.specs.Bodies.{Callee, arguments, body, branched, call_with, evaluated_into};
+ghost use Rattle.seuss_program.specs.Bodies.{looped, statement};
 
 /// What a statement does, by what the bodies inside it do.
 pub fn statements_mean()
@@ -27,7 +28,8 @@ pub fn statements_mean()
     ensures calls { (p : Program) (callee : Callee) (box : ℕ) (bind : Option Ref) (call : Call Ref)
         (state : State) (slots : List Value) (budget : ℕ) →
         statement p callee box (S.Call bind call) state slots budget
-        ≡ call_with p callee box bind call (arguments call.args (vars_of state box) slots) state slots budget }
+        ≡ call_with p callee box bind call (arguments call.args (vars_of state box) slots) state slots
+        budget }
     ensures branches { (p : Program) (callee : Callee) (box : ℕ) (cond : Expr Ref)
         (holds fails : List (Statement Ref)) (state : State) (slots : List Value) (budget : ℕ) →
         statement p callee box (S.If cond holds fails) state slots budget

@@ -1,5 +1,7 @@
 -- The actions of a checked program are actions of their boxes.
-use Rattle.std.proofs.Common.{◌≡◌, ℕ, zero, suc, ◌+◌, ◌⊎◌, inl, inr, Bool, true, false, if◌then◌else◌, IsTrue, List, [], ◌∷◌, ◌++◌, Option, None, Some, option_and_then, refl, sym, ap, ◌∙◌, subst, arith}
+use Rattle.std.proofs.Common.{◌≡◌, ℕ, zero, suc, ◌+◌, ◌⊎◌, inl, inr, Bool, true, false, if◌then◌else◌}
+use Rattle.std.proofs.Common.{IsTrue, List, [], ◌∷◌, ◌++◌, Option, None, Some, option_and_then, refl, sym}
+use Rattle.std.proofs.Common.{ap, ◌∙◌, subst, arith}
 use Rattle.std.specs.Prelude.{slice_get}
 use Rattle.seuss_program.specs.declared.program.Program.{Program}
 use Rattle.seuss_program.specs.declared.program.BoxInfo.{BoxInfo}
@@ -45,14 +47,24 @@ record Among (box first : ℕ) (qs : List (Proc Ref)) (a : ActionInfo) : Type 0 
   box_is : a.box_number ≡ box
   number : a.procedure ≡ first + place
 
-among : (box first : ℕ) (qs : List (Proc Ref)) (a : ActionInfo) → In a (actions_among box first qs) → Among box first qs a
+among : (box first : ℕ) (qs : List (Proc Ref)) (a : ActionInfo) → In a (actions_among box first qs) →
+    Among box first qs a
 among box first [] a h = elim h [ ]
 among box first (q ∷ qs) a h = by (is_action q.form) refl h (among box (first + 1) qs a)
   where
     later : Among box (first + 1) qs a → Among box first (q ∷ qs) a
-    later r = record { place = suc r.place; procedure = r.procedure; there = r.there; form = r.form; box_is = r.box_is; number = omega (arith, r.number) }
+    later r = record {
+      place = suc r.place;
+      procedure = r.procedure;
+      there = r.there;
+      form = r.form;
+      box_is = r.box_is;
+      number = omega (arith, r.number);
+    }
 
-    by : (b : Bool) → is_action q.form ≡ b → In a (if b then record { box_number = box; procedure = first } ∷ actions_among box (first + 1) qs else actions_among box (first + 1) qs) →
+    by : (b : Bool) → is_action q.form ≡ b → In a
+        (if b then record { box_number = box; procedure = first }
+        ∷ actions_among box (first + 1) qs else actions_among box (first + 1) qs) →
         (In a (actions_among box (first + 1) qs) → Among box (first + 1) qs a) → Among box first (q ∷ qs) a
     by true form (inl e) rec = record {
       place = 0;
@@ -72,18 +84,37 @@ record Boxed (cats : List (Cat Ref)) (first : ℕ) (boxes : List BoxInfo) (a : A
   there : slice_get boxes place ≡ Some info
   action : Among (first + place) 0 (procedures_in (slice_get cats info.cat)) a
 
-boxed : (cats : List (Cat Ref)) (first : ℕ) (boxes : List BoxInfo) (a : ActionInfo) → In a (actions_of cats first boxes) → Boxed cats first boxes a
+boxed : (cats : List (Cat Ref)) (first : ℕ) (boxes : List BoxInfo) (a : ActionInfo) →
+    In a (actions_of cats first boxes) → Boxed cats first boxes a
 boxed cats first [] a h = elim h [ ]
-boxed cats first (b ∷ bs) a h = by (in_append (actions_among first 0 (procedures_in (slice_get cats b.cat))) (actions_of cats (first + 1) bs) a h) (boxed cats (first + 1) bs a)
+boxed cats first (b ∷ bs) a h = by
+    (in_append (actions_among first 0 (procedures_in (slice_get cats b.cat)))
+    (actions_of cats (first + 1) bs) a h) (boxed cats (first + 1) bs a)
   where
-    by : In a (actions_among first 0 (procedures_in (slice_get cats b.cat))) ⊎ In a (actions_of cats (first + 1) bs) → (In a (actions_of cats (first + 1) bs) → Boxed cats (first + 1) bs a) →
+    by : In a (actions_among first 0 (procedures_in (slice_get cats b.cat)))
+        ⊎ In a (actions_of cats (first + 1) bs) →
+        (In a (actions_of cats (first + 1) bs) → Boxed cats (first + 1) bs a) →
         Boxed cats first (b ∷ bs) a
-    by (inl i) rec = record { place = 0; info = b; there = refl; action = subst (λ n. Among n 0 (procedures_in (slice_get cats b.cat)) a) (omega arith) (among first 0 (procedures_in (slice_get cats b.cat)) a i) }
+    by (inl i) rec = record {
+      place = 0;
+      info = b;
+      there = refl;
+      action =
+          subst (λ n. Among n 0 (procedures_in (slice_get cats b.cat)) a) (omega arith)
+          (among first 0 (procedures_in (slice_get cats b.cat)) a i);
+    }
     by (inr i) rec =
         let r = rec i in
-        record { place = suc r.place; info = r.info; there = r.there; action = subst (λ n. Among n 0 (procedures_in (slice_get cats r.info.cat)) a) (omega arith) r.action }
+        record {
+          place = suc r.place;
+          info = r.info;
+          there = r.there;
+          action =
+              subst (λ n. Among n 0 (procedures_in (slice_get cats r.info.cat)) a) (omega arith) r.action;
+        }
 
-pub action_is : (p : Program) → Keeps p → (n : ℕ) (a : ActionInfo) → slice_get p.actions n ≡ Some a → IsAction p a
+pub action_is : (p : Program) → Keeps p → (n : ℕ) (a : ActionInfo) → slice_get p.actions n ≡ Some a →
+    IsAction p a
 action_is p keeps n a h =
     let b = boxed p.cats 0 p.boxes a (subst (λ l. In a l) keeps.actions (in_get p.actions n a h)) in
     let r = b.action in
@@ -93,11 +124,13 @@ action_is p keeps n a h =
       procedure = r.procedure;
       there = ap (λ k. procedure_of p k a.procedure) box
           ∙ (ap (procedure_of p b.place) number
-          ∙ (ap (λ (o : Option BoxInfo). option_and_then (λ (c : Cat Ref). slice_get c.procs r.place) (option_and_then (λ (x : BoxInfo). slice_get p.cats x.cat) o)) b.there
+          ∙ (ap (λ (o : Option BoxInfo). option_and_then (λ (c : Cat Ref). slice_get c.procs r.place)
+          (option_and_then (λ (x : BoxInfo). slice_get p.cats x.cat) o)) b.there
           ∙ in_cat (slice_get p.cats b.info.cat) r.place r.procedure r.there));
       form = r.form;
     }
   where
-    in_cat : (o : Option (Cat Ref)) (k : ℕ) (q : Proc Ref) → slice_get (procedures_in o) k ≡ Some q → option_and_then (λ (c : Cat Ref). slice_get c.procs k) o ≡ Some q
+    in_cat : (o : Option (Cat Ref)) (k : ℕ) (q : Proc Ref) → slice_get (procedures_in o) k ≡ Some q →
+        option_and_then (λ (c : Cat Ref). slice_get c.procs k) o ≡ Some q
     in_cat None k q h = h
     in_cat (Some c) k q h = h

@@ -1,5 +1,7 @@
 -- A pass of an action stays among the frames of its line and its tail.
-use Rattle.std.proofs.Common.{◌≡◌, ℕ, ◌-◌, ℤ, ◌⊎◌, inl, inr, Bool, true, false, if◌then◌else◌, List, [], ◌∷◌, ◌++◌, length, Option, None, Some, refl, sym, ap, ◌∙◌, subst, arith, true≢false}
+use Rattle.std.proofs.Common.{◌≡◌, ℕ, ◌-◌, ℤ, ◌⊎◌, inl, inr, Bool, true, false, if◌then◌else◌, List, []}
+use Rattle.std.proofs.Common.{◌∷◌, ◌++◌, length, Option, None, Some, refl, sym, ap, ◌∙◌, subst, arith}
+use Rattle.std.proofs.Common.{true≢false}
 use Rattle.std.proofs.lemmas.List.{map-append}
 use Rattle.seuss_program.specs.declared.program.Program.{Program}
 use Rattle.seuss_program.specs.declared.program.ActionInfo.{ActionInfo}
@@ -19,9 +21,11 @@ use Rattle.method_code.specs.declared.activation.Waiting.{Waiting}
 use Rattle.method_code.specs.declared.activation.Activation.{Activation}
 use Rattle.method_code.specs.Codes.{compiled, number_of, method_code}
 use Rattle.method_code.specs.Steps.{Stepped, step, step_in}
-use Rattle.method_code.specs.Chains.{Turned, Next, Over, turned, begun, accepted, rejected, after_accepted, after_rejected, last_of}
+use Rattle.method_code.specs.Chains.{Turned, Next, Over, turned, begun, accepted, rejected, after_accepted}
+use Rattle.method_code.specs.Chains.{after_rejected, last_of}
 use Rattle.method_code.specs.Kinds.{steps_made, steps_on, IsAction}
-use Rattle.method_code.specs.Frames.{IsFrame, IsPlace, Rejection, Result as AtResult, Return, IsWaiting, IsCall, FitsEnd}
+use Rattle.method_code.specs.Frames.{IsFrame, IsPlace, Rejection, Result as AtResult, Return, IsWaiting}
+use Rattle.method_code.specs.Frames.{IsCall, FitsEnd}
 use Rattle.seuss_program.specs.Lines.{InLine, Own, Early, InTail, OfLine, OfTail, body_calls, early_calls}
 use Rattle.method_code.specs.OwnSteps.{EachMade, FindsVars, IsOwnStep}
 use Rattle.method_code.proofs.Places.{stands, coded, scope, keeps_procedure, calls_below}
@@ -62,35 +66,54 @@ one_procedure o q r h g = cc
 
 module _ (p : Program) (keeps : Keeps p) (a : ActionInfo) where
   -- a call in the text of such a procedure
-  called_among : (box number target called : ℕ) (args : List Value) (partial : Bool) (o : Among p a box number) → (q : Proc Ref) → procedure_of p box number ≡ Some q →
-      (partial ≡ true → is_total q.form ≡ false) → IsCall p (target_of p box (R.Given target)) called args partial →
-      EndNamed (body_calls q.form) (early_calls q.form) (E.Call target called args partial) → Among p a (target_of p box (R.Given target)) called
+  called_among : (box number target called : ℕ) (args : List Value) (partial : Bool)
+      (o : Among p a box number) → (q : Proc Ref) → procedure_of p box number ≡ Some q →
+      (partial ≡ true → is_total q.form ≡ false) →
+      IsCall p (target_of p box (R.Given target)) called args partial →
+      EndNamed (body_calls q.form) (early_calls q.form) (E.Call target called args partial) →
+      Among p a (target_of p box (R.Given target)) called
   called_among box number target called args true o q there rejects call n =
       record { procedure = call.procedure; there = call.there; among = inl (by o.among) }
     where
       same : o.procedure ≡ q
       same = one_procedure (procedure_of p box number) o.procedure q o.there there
 
-      place : InLine p a (target_of p box n.call.target) (method_of n.call.method) → InLine p a (target_of p box (R.Given target)) called
-      place l = subst (λ b. InLine p a b called) (ap (target_of p box) (n.given ∙ ap (λ k. R.Given k) n.target_is)) (subst (λ k. InLine p a (target_of p box n.call.target) k) n.method_is l)
+      place : InLine p a (target_of p box n.call.target) (method_of n.call.method) →
+          InLine p a (target_of p box (R.Given target)) called
+      place l = subst (λ b. InLine p a b called)
+          (ap (target_of p box) (n.given ∙ ap (λ k. R.Given k) n.target_is))
+          (subst (λ k. InLine p a (target_of p box n.call.target) k) n.method_is l)
 
-      by : InLine p a box number ⊎ (InTail p a box number × (is_total o.procedure.form ≡ true)) → InLine p a (target_of p box (R.Given target)) called
+      by : InLine p a box number ⊎ (InTail p a box number × (is_total o.procedure.form ≡ true)) →
+          InLine p a (target_of p box (R.Given target)) called
       by (inl l) = place (Early box number q n.call l there n.among)
-      by (inr t) = absurd (true≢false (sym t.1 ∙ (ap (λ (r : Proc Ref). is_total r.form) same ∙ rejects refl)))
+      by (inr t) = absurd (true≢false
+          (sym t.1 ∙ (ap (λ (r : Proc Ref). is_total r.form) same ∙ rejects refl)))
   called_among box number target called args false o q there rejects call n =
       record { procedure = call.procedure; there = call.there; among = inr (by o.among, call.form) }
     where
-      place : InTail p a (target_of p box n.call.target) (method_of n.call.method) → InTail p a (target_of p box (R.Given target)) called
-      place l = subst (λ b. InTail p a b called) (ap (target_of p box) (n.given ∙ ap (λ k. R.Given k) n.target_is)) (subst (λ k. InTail p a (target_of p box n.call.target) k) n.method_is l)
+      place : InTail p a (target_of p box n.call.target) (method_of n.call.method) →
+          InTail p a (target_of p box (R.Given target)) called
+      place l = subst (λ b. InTail p a b called)
+          (ap (target_of p box) (n.given ∙ ap (λ k. R.Given k) n.target_is))
+          (subst (λ k. InTail p a (target_of p box n.call.target) k) n.method_is l)
 
-      by : InLine p a box number ⊎ (InTail p a box number × (is_total o.procedure.form ≡ true)) → InTail p a (target_of p box (R.Given target)) called
+      by : InLine p a box number ⊎ (InTail p a box number × (is_total o.procedure.form ≡ true)) →
+          InTail p a (target_of p box (R.Given target)) called
       by (inl l) = place (OfLine box number q n.call l there n.among)
       by (inr t) = place (OfTail box number q n.call t.0 there n.among)
 
   -- a caller goes on after a call
-  accepted_own : (w : Waiting) (found : Option ℤ) → OwnWaiting p a w → OwnFrame p a w.box_number (after_accepted w.frame found)
+  accepted_own : (w : Waiting) (found : Option ℤ) → OwnWaiting p a w →
+      OwnFrame p a w.box_number (after_accepted w.frame found)
   accepted_own w None o = record {
-    is = record { number = o.number; procedure = o.is.procedure; there = o.is.there; method = o.is.method; place = Return o.is.at o.is.place o.is.takes o.is.slots };
+    is = record {
+      number = o.number;
+      procedure = o.is.procedure;
+      there = o.is.there;
+      method = o.is.method;
+      place = Return o.is.at o.is.place o.is.takes o.is.slots;
+    };
     of = o.of;
   }
   accepted_own w (Some z) o = record {
@@ -99,22 +122,31 @@ module _ (p : Program) (keeps : Keeps p) (a : ActionInfo) where
       procedure = o.is.procedure;
       there = o.is.there;
       method = o.is.method;
-      place = AtResult o.is.at (omega (arith, o.is.place)) o.is.takes (map-append kind_of w.frame.slots (V.Int z ∷ []) ∙ ap (λ ks. ks ++ KV.Int ∷ []) o.is.slots);
+      place = AtResult o.is.at (omega (arith, o.is.place)) o.is.takes
+          (map-append kind_of w.frame.slots (V.Int z ∷ []) ∙ ap (λ ks. ks ++ KV.Int ∷ []) o.is.slots);
     };
     of = o.of;
   }
 
   rejected_own : (w : Waiting) → OwnWaiting p a w → OwnFrame p a w.box_number (after_rejected w)
   rejected_own w o = record {
-    is = record { number = o.number; procedure = o.is.procedure; there = o.is.there; method = o.is.method; place = by w.partial o.is.early };
+    is = record {
+      number = o.number;
+      procedure = o.is.procedure;
+      there = o.is.there;
+      method = o.is.method;
+      place = by w.partial o.is.early;
+    };
     of = o.of;
   }
     where
-      by : (b : Bool) → (b ≡ true → is_total o.is.procedure.form ≡ false) → IsPlace o.is.procedure (if b then 1 else w.frame.place) w.frame.slots
+      by : (b : Bool) → (b ≡ true → is_total o.is.procedure.form ≡ false) →
+          IsPlace o.is.procedure (if b then 1 else w.frame.place) w.frame.slots
       by true early = Rejection refl (early refl) o.is.slots
       by false early = Return o.is.at o.is.place o.is.takes o.is.slots
 
-  accepted_next : (x : Activation) (found : Option ℤ) → Each (OwnWaiting p a) x.waiting → OwnNext p a (accepted x found (last_of x.waiting))
+  accepted_next : (x : Activation) (found : Option ℤ) → Each (OwnWaiting p a) x.waiting →
+      OwnNext p a (accepted x found (last_of x.waiting))
   accepted_next x found waits = by (last_of x.waiting) refl
     where
       by : (o : Option Waiting) → last_of x.waiting ≡ o → OwnNext p a (accepted x found o)
@@ -124,7 +156,8 @@ module _ (p : Program) (keeps : Keeps p) (a : ActionInfo) where
         waits = each_take (OwnWaiting p a) (length x.waiting - 1) x.waiting waits;
       }
 
-  rejected_next : (x : Activation) (plain : Bool) → Each (OwnWaiting p a) x.waiting → OwnNext p a (rejected x plain (last_of x.waiting))
+  rejected_next : (x : Activation) (plain : Bool) → Each (OwnWaiting p a) x.waiting →
+      OwnNext p a (rejected x plain (last_of x.waiting))
   rejected_next x plain waits = by (last_of x.waiting) refl
     where
       by : (o : Option Waiting) → last_of x.waiting ≡ o → OwnNext p a (rejected x plain o)
@@ -135,20 +168,33 @@ module _ (p : Program) (keeps : Keeps p) (a : ActionInfo) where
       }
 
   -- what comes after a step
-  next_own : (x : Activation) (o : OwnPass p a x) (s : Stepped) (end : End) → FitsEnd p x.box_number o.here.is.number s.frame end →
-      EndNamed (body_calls o.here.is.procedure.form) (early_calls o.here.is.procedure.form) end → OwnNext p a (turned p (record x { frame = s.frame }) end)
+  next_own : (x : Activation) (o : OwnPass p a x) (s : Stepped) (end : End) →
+      FitsEnd p x.box_number o.here.is.number s.frame end →
+      EndNamed (body_calls o.here.is.procedure.form) (early_calls o.here.is.procedure.form) end →
+      OwnNext p a (turned p (record x { frame = s.frame }) end)
   next_own x o s (E.Call target called args partial) f n =
       let w : Waiting = record { box_number = x.box_number; frame = s.frame; partial = partial } in
       let number = o.here.is.number in
-      let same : f.0.procedure ≡ o.here.is.procedure = one_procedure (procedure_of p x.box_number number) f.0.procedure o.here.is.procedure f.0.there o.here.is.there in
-      let among = called_among x.box_number number target called args partial o.here.of o.here.is.procedure o.here.is.there
+      let same : f.0.procedure ≡ o.here.is.procedure =
+      one_procedure (procedure_of p x.box_number number) f.0.procedure o.here.is.procedure f.0.there
+      o.here.is.there in
+      let among = called_among x.box_number number target called args partial o.here.of o.here.is.procedure
+      o.here.is.there
       (λ e. ap (λ (q : Proc Ref). is_total q.form) (sym same) ∙ f.0.early e) f.1 n in
       record {
         here = record {
-          is = record { number = called; procedure = f.1.procedure; there = f.1.there; method = refl; place = entry_is_frame p (target_of p x.box_number (R.Given target)) called f.1.procedure args f.1.there f.1.args };
+          is = record {
+            number = called;
+            procedure = f.1.procedure;
+            there = f.1.there;
+            method = refl;
+            place = entry_is_frame p (target_of p x.box_number (R.Given target)) called f.1.procedure args
+                f.1.there f.1.args;
+          };
           of = among;
         };
-        waits = each_push (OwnWaiting p a) x.waiting w o.waits (record { number = number; is = f.0; of = o.here.of });
+        waits = each_push (OwnWaiting p a) x.waiting w o.waits
+            (record { number = number; is = f.0; of = o.here.of });
       }
   next_own x o s (E.Returned found) f n = accepted_next (record x { frame = s.frame }) found o.waits
   next_own x o s E.RejectedPlain f n = rejected_next (record x { frame = s.frame }) true o.waits
@@ -158,34 +204,49 @@ module _ (p : Program) (keeps : Keeps p) (a : ActionInfo) where
 
   -- the call of a step from a frame is one of the text
   step_named : (box : ℕ) (frame : Frame) (budget : ℕ) (vars : List Value) (f : IsFrame p box frame) →
-      EndNamed (body_calls f.procedure.form) (early_calls f.procedure.form) (step (compiled p) frame budget vars).end
+      EndNamed (body_calls f.procedure.form) (early_calls f.procedure.form)
+      (step (compiled p) frame budget vars).end
   step_named box frame budget vars f =
       let q = f.procedure in
       let at = stands p box f.number q f.there in
-      let n = named_form (scope p keeps box f.number q at) (λ form bind call fit. let r = named (scope p keeps box f.number q at) form bind call fit in (calls_below p keeps box f.number q at call r.0 r.1).given)
+      let n = named_form (scope p keeps box f.number q at)
+      (λ form bind call fit. let r = named (scope p keeps box f.number q at) form bind call fit in
+      (calls_below p keeps box f.number q at call r.0 r.1).given)
       q.form (keeps_procedure p keeps box f.number q at).text in
       subst (λ (x : Stepped). EndNamed (body_calls q.form) (early_calls q.form) x.end)
-      (sym (ap (λ k. step (compiled p) (record { method = k; place = frame.place; slots = frame.slots }) budget vars) f.method
-      ∙ ap (λ (o : Option Method). step_in o (record { method = number_of p box f.number; place = frame.place; slots = frame.slots }) budget vars) (coded p box f.number q f.there)))
-      (placed_named (body_calls q.form) (early_calls q.form) (method_code q) (number_of p box f.number) budget frame.place vars frame.slots n.0 n.1)
+      (sym (ap (λ k. step (compiled p) (record { method = k; place = frame.place; slots = frame.slots })
+      budget vars) f.method
+      ∙ ap (λ (o : Option Method). step_in o
+      (record { method = number_of p box f.number; place = frame.place; slots = frame.slots }) budget
+      vars) (coded p box f.number q f.there)))
+      (placed_named (body_calls q.form) (early_calls q.form) (method_code q) (number_of p box f.number)
+      budget frame.place vars frame.slots n.0 n.1)
 
   -- all steps of a pass that finds variables of the boxes
-  own_steps : (row : List (List Value)) (x : Activation) (budget : ℕ) → OwnPass p a x → EachMade (FindsVars p) (steps_made p row x budget) → EachMade (IsOwnStep p a) (steps_made p row x budget)
+  own_steps : (row : List (List Value)) (x : Activation) (budget : ℕ) → OwnPass p a x →
+      EachMade (FindsVars p) (steps_made p row x budget) →
+      EachMade (IsOwnStep p a) (steps_made p row x budget)
   own_steps [] x budget o finds = tt
   own_steps (vars ∷ row) x budget o finds =
       let s : Stepped = step (compiled p) x.frame budget vars in
       let fits = step_fits p keeps x.box_number x.frame budget vars o.here.is finds.0 in (
         record { frame = o.here.is; among = loose o.here.of.among; leaves = fits },
-        by (turned p (record x { frame = s.frame }) s.end) s.budget (λ next k f. own_steps row next s.budget k f)
+        by (turned p (record x { frame = s.frame }) s.end) s.budget
+            (λ next k f. own_steps row next s.budget k f)
             (next_own x o s s.end fits.end (step_named x.box_number x.frame budget vars o.here.is)) finds.1,
       )
     where
-      loose : InLine p a x.box_number o.here.is.number ⊎ (InTail p a x.box_number o.here.is.number × (is_total o.here.of.procedure.form ≡ true)) → InLine p a x.box_number o.here.is.number ⊎ InTail p a x.box_number o.here.is.number
+      loose : InLine p a x.box_number o.here.is.number
+          ⊎ (InTail p a x.box_number o.here.is.number × (is_total o.here.of.procedure.form ≡ true)) →
+          InLine p a x.box_number o.here.is.number ⊎ InTail p a x.box_number o.here.is.number
       loose (inl l) = inl l
       loose (inr t) = inr t.0
 
-      by : (t : Turned) (left : ℕ) → ((next : Activation) → OwnPass p a next → EachMade (FindsVars p) (steps_made p row next left) → EachMade (IsOwnStep p a) (steps_made p row next left)) →
-          OwnNext p a t → EachMade (FindsVars p) (steps_on t left (steps_made p row)) → EachMade (IsOwnStep p a) (steps_on t left (steps_made p row))
+      by : (t : Turned) (left : ℕ) →
+          ((next : Activation) → OwnPass p a next → EachMade (FindsVars p) (steps_made p row next left) →
+          EachMade (IsOwnStep p a) (steps_made p row next left)) →
+          OwnNext p a t → EachMade (FindsVars p) (steps_on t left (steps_made p row)) →
+          EachMade (IsOwnStep p a) (steps_on t left (steps_made p row))
       by (Next next) left go h f = go next h f
       by (Over end) left go h f = tt
 
@@ -200,12 +261,15 @@ module _ (p : Program) (keeps : Keeps p) (a : ActionInfo) where
             procedure = is.procedure;
             there = is.there;
             method = refl;
-            place = entry_is_frame p a.box_number a.procedure is.procedure [] is.there (ap param_kinds (sym alone.0));
+            place = entry_is_frame p a.box_number a.procedure is.procedure [] is.there
+                (ap param_kinds (sym alone.0));
           };
           of = record { procedure = is.procedure; there = is.there; among = inl Own };
         };
         waits = tt;
       }
 
-  pub own_pass : IsAction p a → (row : List (List Value)) (budget : ℕ) → EachMade (FindsVars p) (steps_made p row (begun p a) budget) → EachMade (IsOwnStep p a) (steps_made p row (begun p a) budget)
+  pub own_pass : IsAction p a → (row : List (List Value)) (budget : ℕ) →
+      EachMade (FindsVars p) (steps_made p row (begun p a) budget) →
+      EachMade (IsOwnStep p a) (steps_made p row (begun p a) budget)
   own_pass is row budget finds = own_steps row (begun p a) budget (own_begin is) finds

@@ -1,5 +1,6 @@
 -- Values of given kinds, by a test on both lists.
-use Rattle.std.proofs.Common.{◌≡◌, Bool, true, false, ◌&&◌, IsTrue, List, [], ◌∷◌, map, refl, sym, ap, ◌∙◌, subst, true≢false}
+use Rattle.std.proofs.Common.{◌≡◌, Bool, true, false, ◌&&◌, IsTrue, List, [], ◌∷◌, map, refl, sym, ap, ◌∙◌}
+use Rattle.std.proofs.Common.{subst, true≢false}
 use Rattle.seuss_program.specs.declared.tree.Kind.{Kind}
 use Rattle.seuss_program.specs.declared.tree.Kind.TheVariants as KV
 use Rattle.seuss_program.specs.declared.state.Value.{Value}
@@ -47,7 +48,8 @@ to_kinds [] [] h = refl
 to_kinds [] (v ∷ vs) h = absurd (true≢false (sym h))
 to_kinds (k ∷ ks) [] h = absurd (true≢false (sym h))
 to_kinds (k ∷ ks) (v ∷ vs) h =
-    ap (λ j. j ∷ map kind_of vs) (kind_is k (kind_of v) (and_left (has_kind k v) _ h)) ∙ ap (λ l. k ∷ l) (to_kinds ks vs (and_right (has_kind k v) _ h))
+    ap (λ j. j ∷ map kind_of vs) (kind_is k (kind_of v) (and_left (has_kind k v) _ h))
+    ∙ ap (λ l. k ∷ l) (to_kinds ks vs (and_right (has_kind k v) _ h))
 
 pub of_kinds : (ks : List Kind) (vs : List Value) → map kind_of vs ≡ ks → IsTrue (have_kinds ks vs)
 of_kinds ks vs h = subst (λ l. IsTrue (have_kinds l vs)) h (own_kinds vs)

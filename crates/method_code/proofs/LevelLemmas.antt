@@ -1,5 +1,7 @@
 -- A box of a level has boxes of every lower level below it, so levels are fewer than boxes.
-use Rattle.std.proofs.Common.{◌≡◌, ℕ, zero, suc, ◌+◌, ◌≤◌, ◌<◌, ◌⊎◌, Bool, true, false, if◌then◌else◌, nat_eq, List, [], ◌∷◌, map, length, Option, None, Some, refl, sym, ap, ◌∙◌, subst, inl, inr, arith}
+use Rattle.std.proofs.Common.{◌≡◌, ℕ, zero, suc, ◌+◌, ◌≤◌, ◌<◌, ◌⊎◌, Bool, true, false, if◌then◌else◌}
+use Rattle.std.proofs.Common.{nat_eq, List, [], ◌∷◌, map, length, Option, None, Some, refl, sym, ap, ◌∙◌}
+use Rattle.std.proofs.Common.{subst, inl, inr, arith}
 use Rattle.std.proofs.lemmas.Bool.{cases_lt}
 use Rattle.std.proofs.lemmas.List.{length-map}
 use Rattle.std.specs.Prelude.{slice_get}
@@ -27,7 +29,8 @@ unfolding without
 without_less k [] = omega arith
 without_less k (n ∷ ns) = by (nat_eq n k) (without_less k ns)
   where
-    by : (b : Bool) → length (without k ns) ≤ length ns → length (if b then without k ns else n ∷ without k ns) ≤ suc (length ns)
+    by : (b : Bool) → length (without k ns) ≤ length ns →
+        length (if b then without k ns else n ∷ without k ns) ≤ suc (length ns)
     by true h = omega (arith, h)
     by false h = omega (arith, h)
 
@@ -36,12 +39,14 @@ unfolding without
 without_fewer k [] s = elim s [ ]
 without_fewer k (n ∷ ns) (inl e) = by (nat_eq n k) (grind (arith, e)) (without_less k ns)
   where
-    by : (b : Bool) → b ≡ true → length (without k ns) ≤ length ns → length (if b then without k ns else n ∷ without k ns) < suc (length ns)
+    by : (b : Bool) → b ≡ true → length (without k ns) ≤ length ns →
+        length (if b then without k ns else n ∷ without k ns) < suc (length ns)
     by true t h = omega (arith, h)
     by false t h = grind (arith, t)
 without_fewer k (n ∷ ns) (inr s) = by (nat_eq n k) (without_fewer k ns s)
   where
-    by : (b : Bool) → length (without k ns) < length ns → length (if b then without k ns else n ∷ without k ns) < suc (length ns)
+    by : (b : Bool) → length (without k ns) < length ns →
+        length (if b then without k ns else n ∷ without k ns) < suc (length ns)
     by true h = omega (arith, h)
     by false h = omega (arith, h)
 
@@ -68,7 +73,8 @@ all_below zero ns h = some ns (h 0 (omega arith))
     some (n ∷ ns) s = omega arith
 all_below (suc k) ns h =
     let fewer = without_fewer (suc k) ns (h (suc k) (omega arith)) in
-    let rest = all_below k (without (suc k) ns) (λ j le. without_stands (suc k) j ns (omega (arith, le)) (h j (omega (arith, le)))) in
+    let rest = all_below k (without (suc k) ns)
+    (λ j le. without_stands (suc k) j ns (omega (arith, le)) (h j (omega (arith, le)))) in
     omega (arith, fewer, rest)
 
 -- what is above all numbers is one more than one of them
@@ -85,7 +91,8 @@ stands_map f k [] s = elim s [ ]
 stands_map f k (n ∷ ns) (inl e) = (n, e)
 stands_map f k (n ∷ ns) (inr s) = stands_map f k ns s
 
-level_among : (boxes : List BoxInfo) (n : ℕ) (b : BoxInfo) → slice_get boxes n ≡ Some b → Stands b.level (map (λ (x : BoxInfo). x.level) boxes)
+level_among : (boxes : List BoxInfo) (n : ℕ) (b : BoxInfo) → slice_get boxes n ≡ Some b →
+    Stands b.level (map (λ (x : BoxInfo). x.level) boxes)
 level_among [] n b h = absurd (none_some b h)
 level_among (x ∷ boxes) zero b h = inl (same h)
   where
@@ -108,14 +115,19 @@ module _ (p : Program) (keeps : Keeps p) where
   -- every level up to that of a box is the level of some box
   lower_levels : (level box j : ℕ) → level_of p box ≡ level → j ≤ level → Stands j levels
   lower_levels zero box j e le = subst (λ n. Stands n levels) (omega (arith, e, le)) (level_stands box)
-  lower_levels (suc level) box j e le = by (λ next same lower. lower_levels level next j same lower) (cases_lt level j) (slice_get p.boxes box) refl
+  lower_levels (suc level) box j e le = by (λ next same lower. lower_levels level next j same lower)
+      (cases_lt level j) (slice_get p.boxes box) refl
     where
-      by : ((next : ℕ) → level_of p next ≡ level → j ≤ level → Stands j levels) → (level < j) ⊎ (j ≤ level) → (o : Option BoxInfo) → slice_get p.boxes box ≡ o → Stands j levels
+      by : ((next : ℕ) → level_of p next ≡ level → j ≤ level → Stands j levels) →
+          (level < j) ⊎ (j ≤ level) → (o : Option BoxInfo) → slice_get p.boxes box ≡ o → Stands j levels
       by go (inl top) o found = subst (λ n. Stands n levels) (omega (arith, e, le, top)) (level_stands box)
-      by go (inr lower) None found = let none : level_of p box ≡ 0 = ap level_in found in absurd (omega (arith, e, none))
+      by go (inr lower) None found = let none : level_of p box ≡ 0 = ap level_in found in
+          absurd (omega (arith, e, none))
       by go (inr lower) (Some b) found =
           let here : level_of p box ≡ b.level = ap level_in found in
-          let below = stands_map (level_of p) level b.given (above_is level (map (level_of p) b.given) (sym (get_all (KeepsBox p) p.boxes box b found keeps.boxes).level ∙ (sym here ∙ e))) in
+          let below = stands_map (level_of p) level b.given
+          (above_is level (map (level_of p) b.given)
+          (sym (get_all (KeepsBox p) p.boxes box b found keeps.boxes).level ∙ (sym here ∙ e))) in
           go below.0 below.1 lower
 
   pub levels_few : (box : ℕ) → level_of p box ≤ 128

@@ -1,5 +1,7 @@
 -- Where the code and the text of a procedure stand, and what a call of a checked program goes to.
-use Rattle.std.proofs.Common.{◌≡◌, ℕ, zero, suc, ◌+◌, ◌<◌, IsTrue, List, [], ◌∷◌, ◌++◌, map, length, take, Option, None, Some, All, option_and_then, refl, sym, ap, ◌∙◌, subst, arith, length-append, le_refl, true≢false}
+use Rattle.std.proofs.Common.{◌≡◌, ℕ, zero, suc, ◌+◌, ◌<◌, IsTrue, List, [], ◌∷◌, ◌++◌, map, length, take}
+use Rattle.std.proofs.Common.{Option, None, Some, All, option_and_then, refl, sym, ap, ◌∙◌, subst, arith}
+use Rattle.std.proofs.Common.{length-append, le_refl, true≢false}
 use Rattle.std.specs.Prelude.{slice_get}
 use Rattle.std.proofs.lemmas.Option.{slice_get_past, slice_get_within, get_or_from_slice_get}
 use Rattle.seuss_program.specs.declared.program.Program.{Program}
@@ -11,42 +13,54 @@ use Rattle.seuss_program.specs.declared.tree.Cat.{Cat}
 use Rattle.seuss_program.specs.declared.tree.Given.{Given}
 use Rattle.seuss_program.specs.declared.tree.Proc.{Proc}
 use Rattle.seuss_program.specs.Programs.{procedure_of, level_of, level_in, target_of, given_in, method_of}
-use Rattle.seuss_program.specs.Keeping.{Scope, scope_of, Keeps, KeepsBox, KeepsCat, KeepsProcedure, given_fit, is_box_of, above, given_cat, cat_at, method_at, called}
-use Rattle.method_code.specs.Codes.{compiled, cats_code, method_code, number_of, number_at, cat_number, given_number}
+use Rattle.seuss_program.specs.Keeping.{Scope, scope_of, Keeps, KeepsBox, KeepsCat, KeepsProcedure}
+use Rattle.seuss_program.specs.Keeping.{given_fit, is_box_of, above, given_cat, cat_at, method_at, called}
+use Rattle.method_code.specs.Codes.{compiled, cats_code, method_code, number_of, number_at, cat_number}
+use Rattle.method_code.specs.Codes.{given_number}
 use Rattle.method_code.proofs.Simulation.{and_left, and_right}
 
-get_front : {A : Type 0} (xs ys : List A) (n : ℕ) (x : A) → slice_get xs n ≡ Some x → slice_get (xs ++ ys) n ≡ Some x
+get_front : {A : Type 0} (xs ys : List A) (n : ℕ) (x : A) → slice_get xs n ≡ Some x →
+    slice_get (xs ++ ys) n ≡ Some x
 get_front [] ys n x h = cc
 get_front (a ∷ xs) ys zero x h = h
 get_front (a ∷ xs) ys (suc n) x h = get_front xs ys n x h
 
 get_back : {A : Type 0} (xs ys : List A) (n : ℕ) → slice_get (xs ++ ys) (length xs + n) ≡ slice_get ys n
 get_back [] ys n = let e : 0 + n ≡ n = omega arith in ap (slice_get ys) e
-get_back (a ∷ xs) ys n = let e : suc (length xs) + n ≡ suc (length xs + n) = omega arith in ap (slice_get (a ∷ (xs ++ ys))) e ∙ get_back xs ys n
+get_back (a ∷ xs) ys n = let e : suc (length xs) + n ≡ suc (length xs + n) = omega arith in
+    ap (slice_get (a ∷ (xs ++ ys))) e ∙ get_back xs ys n
 
-get_map : {A B : Type 0} (f : A → B) (xs : List A) (n : ℕ) (x : A) → slice_get xs n ≡ Some x → slice_get (map f xs) n ≡ Some (f x)
+get_map : {A B : Type 0} (f : A → B) (xs : List A) (n : ℕ) (x : A) → slice_get xs n ≡ Some x →
+    slice_get (map f xs) n ≡ Some (f x)
 get_map f [] n x h = cc
 get_map f (a ∷ xs) zero x h = cc
 get_map f (a ∷ xs) (suc n) x h = get_map f xs n x h
 
-pub get_all : {A : Type 0} (P : A → Type 0) (xs : List A) (n : ℕ) (x : A) → slice_get xs n ≡ Some x → All P xs → P x
+pub get_all : {A : Type 0} (P : A → Type 0) (xs : List A) (n : ℕ) (x : A) → slice_get xs n ≡ Some x →
+    All P xs → P x
 get_all P xs n x h all = subst P (get_or_from_slice_get xs n x x h) (all n x (slice_get_within xs n x h))
 
 -- the code of a procedure of a cat
-cats_coded : (cats : List (Cat Ref)) (k n : ℕ) (c : Cat Ref) (q : Proc Ref) → slice_get cats k ≡ Some c → slice_get c.procs n ≡ Some q →
+cats_coded : (cats : List (Cat Ref)) (k n : ℕ) (c : Cat Ref) (q : Proc Ref) → slice_get cats k ≡ Some c →
+    slice_get c.procs n ≡ Some q →
     slice_get (cats_code cats) (length (cats_code (take k cats)) + n) ≡ Some (method_code q)
 cats_coded [] k n c q h g = cc
 cats_coded (d ∷ cats) zero n c q h g =
     let same : d ≡ c = some_same h in
     let e : 0 + n ≡ n = omega arith in
-    ap (slice_get (map method_code d.procs ++ cats_code cats)) e ∙ get_front (map method_code d.procs) (cats_code cats) n (method_code q) (get_map method_code d.procs n q (ap (λ (x : Cat Ref). slice_get x.procs n) same ∙ g))
+    ap (slice_get (map method_code d.procs ++ cats_code cats)) e
+    ∙ get_front (map method_code d.procs) (cats_code cats) n (method_code q)
+    (get_map method_code d.procs n q (ap (λ (x : Cat Ref). slice_get x.procs n) same ∙ g))
   where
     some_same : Some d ≡ Some c → d ≡ c
     some_same h = cc
 cats_coded (d ∷ cats) (suc k) n c q h g =
-    let e : length (map method_code d.procs ++ cats_code (take k cats)) + n ≡ length (map method_code d.procs) + (length (cats_code (take k cats)) + n) =
+    let e : length (map method_code d.procs ++ cats_code (take k cats)) + n
+    ≡ length (map method_code d.procs) + (length (cats_code (take k cats)) + n) =
     omega (arith, length-append (map method_code d.procs) (cats_code (take k cats))) in
-    ap (slice_get (map method_code d.procs ++ cats_code cats)) e ∙ (get_back (map method_code d.procs) (cats_code cats) (length (cats_code (take k cats)) + n) ∙ cats_coded cats k n c q h g)
+    ap (slice_get (map method_code d.procs ++ cats_code cats)) e
+    ∙ (get_back (map method_code d.procs) (cats_code cats) (length (cats_code (take k cats)) + n)
+    ∙ cats_coded cats k n c q h g)
 
 -- A procedure of a box stands in the cat of the box.
 pub record Stands (p : Program) (box number : ℕ) (q : Proc Ref) : Type 0 where
@@ -56,10 +70,13 @@ pub record Stands (p : Program) (box number : ℕ) (q : Proc Ref) : Type 0 where
   pub cat_there : slice_get p.cats info.cat ≡ Some cat
   pub there : slice_get cat.procs number ≡ Some q
 
-pub stands : (p : Program) (box number : ℕ) (q : Proc Ref) → procedure_of p box number ≡ Some q → Stands p box number q
+pub stands : (p : Program) (box number : ℕ) (q : Proc Ref) → procedure_of p box number ≡ Some q →
+    Stands p box number q
 stands p box number q h = in_box (slice_get p.boxes box) refl h
   where
-    in_cat : (b : BoxInfo) → slice_get p.boxes box ≡ Some b → (o : Option (Cat Ref)) → slice_get p.cats b.cat ≡ o → option_and_then (λ (c : Cat Ref). slice_get c.procs number) o ≡ Some q → Stands p box number q
+    in_cat : (b : BoxInfo) → slice_get p.boxes box ≡ Some b → (o : Option (Cat Ref)) →
+        slice_get p.cats b.cat ≡ o → option_and_then (λ (c : Cat Ref). slice_get c.procs number) o
+        ≡ Some q → Stands p box number q
     in_cat b eb None ec h = absurd (none_is h)
       where
         none_is : None ≡ Some q → ⊥
@@ -67,7 +84,8 @@ stands p box number q h = in_box (slice_get p.boxes box) refl h
     in_cat b eb (Some c) ec h = record { info = b; cat = c; box_there = eb; cat_there = ec; there = h }
 
     in_box : (o : Option BoxInfo) → slice_get p.boxes box ≡ o →
-        option_and_then (λ (c : Cat Ref). slice_get c.procs number) (option_and_then (λ (b : BoxInfo). slice_get p.cats b.cat) o) ≡ Some q → Stands p box number q
+        option_and_then (λ (c : Cat Ref). slice_get c.procs number)
+        (option_and_then (λ (b : BoxInfo). slice_get p.cats b.cat) o) ≡ Some q → Stands p box number q
     in_box None eb h = absurd (none_is h)
       where
         none_is : None ≡ Some q → ⊥
@@ -75,16 +93,21 @@ stands p box number q h = in_box (slice_get p.boxes box) refl h
     in_box (Some b) eb h = in_cat b eb (slice_get p.cats b.cat) refl h
 
 -- the code of a procedure has the procedure's number
-pub coded : (p : Program) (box number : ℕ) (q : Proc Ref) → procedure_of p box number ≡ Some q → slice_get (compiled p) (number_of p box number) ≡ Some (method_code q)
+pub coded : (p : Program) (box number : ℕ) (q : Proc Ref) → procedure_of p box number ≡ Some q →
+    slice_get (compiled p) (number_of p box number) ≡ Some (method_code q)
 coded p box number q h =
     let at = stands p box number q h in
-    ap (λ (o : Option (Proc Ref)). slice_get (compiled p) (number_at p (cat_number (slice_get p.boxes box)) number o)) h
-    ∙ (ap (λ (o : Option BoxInfo). slice_get (compiled p) (number_at p (cat_number o) number (Some q))) at.box_there
+    ap (λ (o : Option (Proc Ref)). slice_get (compiled p)
+    (number_at p (cat_number (slice_get p.boxes box)) number o)) h
+    ∙ (ap (λ (o : Option BoxInfo). slice_get (compiled p) (number_at p (cat_number o) number (Some q)))
+    at.box_there
     ∙ cats_coded p.cats at.info.cat number at.cat q at.cat_there at.there)
 
-pub uncoded : (p : Program) (box number : ℕ) → procedure_of p box number ≡ None → slice_get (compiled p) (number_of p box number) ≡ None
+pub uncoded : (p : Program) (box number : ℕ) → procedure_of p box number ≡ None →
+    slice_get (compiled p) (number_of p box number) ≡ None
 uncoded p box number h =
-    ap (λ (o : Option (Proc Ref)). slice_get (compiled p) (number_at p (cat_number (slice_get p.boxes box)) number o)) h
+    ap (λ (o : Option (Proc Ref)). slice_get (compiled p)
+    (number_at p (cat_number (slice_get p.boxes box)) number o)) h
     ∙ slice_get_past (compiled p) (length (compiled p)) (le_refl _)
 
 -- What a call of a checked program goes to: a procedure of a box that was given, which is of a lower
@@ -107,7 +130,8 @@ record GivenCat (s : Scope) (name : Ref) (c : Cat Ref) : Type 0 where
 none_some : {A : Type 0} (x : A) → None ≡ Some x → ⊥
 none_some x h = cc
 
-cat_at_is : (cats : List (Cat Ref)) (name : Ref) (c : Cat Ref) → cat_at cats name ≡ Some c → (k : ℕ) × (name ≡ R.Cat k) × (slice_get cats k ≡ Some c)
+cat_at_is : (cats : List (Cat Ref)) (name : Ref) (c : Cat Ref) → cat_at cats name ≡ Some c →
+    (k : ℕ) × (name ≡ R.Cat k) × (slice_get cats k ≡ Some c)
 cat_at_is cats (R.Cat k) c h = (k, refl, h)
 cat_at_is cats (R.Var k) c h = absurd (none_some c h)
 cat_at_is cats (R.Slot k) c h = absurd (none_some c h)
@@ -117,48 +141,71 @@ cat_at_is cats (R.Method k) c h = absurd (none_some c h)
 given_cat_is : (s : Scope) (name : Ref) (c : Cat Ref) → given_cat s name ≡ Some c → GivenCat s name c
 given_cat_is s (R.Given n) c h = by (slice_get s.given n) refl h
   where
-    by : (o : Option (Given Ref)) → slice_get s.given n ≡ o → option_and_then (λ (g : Given Ref). cat_at s.cats g.cat) o ≡ Some c → GivenCat s (R.Given n) c
+    by : (o : Option (Given Ref)) → slice_get s.given n ≡ o →
+        option_and_then (λ (g : Given Ref). cat_at s.cats g.cat) o ≡ Some c → GivenCat s (R.Given n) c
     by None e h = absurd (none_some c h)
-    by (Some g) e h = let at = cat_at_is s.cats g.cat c h in record { number = n; cat = at.0; given = g; named = refl; given_there = e; cat_named = at.1; cat_there = at.2 }
+    by (Some g) e h = let at = cat_at_is s.cats g.cat c h in
+        record {
+          number = n;
+          cat = at.0;
+          given = g;
+          named = refl;
+          given_there = e;
+          cat_named = at.1;
+          cat_there = at.2;
+        }
 given_cat_is s (R.Var k) c h = absurd (none_some c h)
 given_cat_is s (R.Slot k) c h = absurd (none_some c h)
 given_cat_is s (R.Method k) c h = absurd (none_some c h)
 given_cat_is s (R.Cat k) c h = absurd (none_some c h)
 
-method_at_is : (name : Ref) (c : Cat Ref) (q : Proc Ref) → method_at name c ≡ Some q → slice_get c.procs (method_of name) ≡ Some q
+method_at_is : (name : Ref) (c : Cat Ref) (q : Proc Ref) → method_at name c ≡ Some q →
+    slice_get c.procs (method_of name) ≡ Some q
 method_at_is (R.Method k) c q h = h
 method_at_is (R.Var k) c q h = absurd (none_some q h)
 method_at_is (R.Slot k) c q h = absurd (none_some q h)
 method_at_is (R.Given k) c q h = absurd (none_some q h)
 method_at_is (R.Cat k) c q h = absurd (none_some q h)
 
-called_is : (s : Scope) (call : Call Ref) (q : Proc Ref) → called s call ≡ Some q → (c : Cat Ref) × GivenCat s call.target c × (slice_get c.procs (method_of call.method) ≡ Some q)
+called_is : (s : Scope) (call : Call Ref) (q : Proc Ref) → called s call ≡ Some q →
+    (c : Cat Ref) × GivenCat s call.target c × (slice_get c.procs (method_of call.method) ≡ Some q)
 called_is s call q h = by (given_cat s call.target) refl h
   where
-    by : (o : Option (Cat Ref)) → given_cat s call.target ≡ o → option_and_then (method_at call.method) o ≡ Some q → (c : Cat Ref) × GivenCat s call.target c × (slice_get c.procs (method_of call.method) ≡ Some q)
+    by : (o : Option (Cat Ref)) → given_cat s call.target ≡ o →
+        option_and_then (method_at call.method) o ≡ Some q →
+        (c : Cat Ref) × GivenCat s call.target c × (slice_get c.procs (method_of call.method) ≡ Some q)
     by None e h = absurd (none_some q h)
     by (Some c) e h = (c, given_cat_is s call.target c e, method_at_is call.method c q h)
 
 -- the box that is given, with the cat that its cat declares
-box_of_is : (o : Option BoxInfo) (k : ℕ) → IsTrue (is_box_of o (R.Cat k)) → (b : BoxInfo) × (o ≡ Some b) × (b.cat ≡ k)
+box_of_is : (o : Option BoxInfo) (k : ℕ) → IsTrue (is_box_of o (R.Cat k)) →
+    (b : BoxInfo) × (o ≡ Some b) × (b.cat ≡ k)
 box_of_is None k h = absurd (true≢false (sym h))
 box_of_is (Some b) k h = (b, refl, grind (arith, h))
 
-given_box : (boxes : List BoxInfo) (ns : List ℕ) (gs : List (Given Ref)) (n : ℕ) (g : Given Ref) → IsTrue (given_fit boxes ns gs) → slice_get gs n ≡ Some g →
+given_box : (boxes : List BoxInfo) (ns : List ℕ) (gs : List (Given Ref)) (n : ℕ) (g : Given Ref) →
+    IsTrue (given_fit boxes ns gs) → slice_get gs n ≡ Some g →
     (t : ℕ) × (slice_get ns n ≡ Some t) × IsTrue (is_box_of (slice_get boxes t) g.cat)
 given_box boxes [] [] n g h e = absurd (none_some g e)
 given_box boxes [] (x ∷ gs) n g h e = absurd (true≢false (sym h))
 given_box boxes (t ∷ ns) [] n g h e = absurd (none_some g e)
-given_box boxes (t ∷ ns) (x ∷ gs) zero g h e = (t, refl, subst (λ (y : Given Ref). IsTrue (is_box_of (slice_get boxes t) y.cat)) (some_same e) (and_left (is_box_of (slice_get boxes t) x.cat) _ h))
+given_box boxes (t ∷ ns) (x ∷ gs) zero g h e = (
+  t,
+  refl,
+  subst (λ (y : Given Ref). IsTrue (is_box_of (slice_get boxes t) y.cat)) (some_same e)
+      (and_left (is_box_of (slice_get boxes t) x.cat) _ h),
+)
   where
     some_same : Some x ≡ Some g → x ≡ g
     some_same h = cc
-given_box boxes (t ∷ ns) (x ∷ gs) (suc n) g h e = given_box boxes ns gs n g (and_right (is_box_of (slice_get boxes t) x.cat) _ h) e
+given_box boxes (t ∷ ns) (x ∷ gs) (suc n) g h e =
+    given_box boxes ns gs n g (and_right (is_box_of (slice_get boxes t) x.cat) _ h) e
 
 -- a number is below what is above all
 below_above : (f : ℕ → ℕ) (ns : List ℕ) (n t : ℕ) → slice_get ns n ≡ Some t → f t < above (map f ns)
 below_above f [] n t h = absurd (none_some t h)
-below_above f (x ∷ ns) zero t h = let e : x ≡ t = cc in subst (λ y. f y < above (map f (x ∷ ns))) e (omega arith)
+below_above f (x ∷ ns) zero t h = let e : x ≡ t = cc in
+    subst (λ y. f y < above (map f (x ∷ ns))) e (omega arith)
 below_above f (x ∷ ns) (suc n) t h = let l = below_above f ns n t h in omega (arith, l)
 
 module _ (p : Program) (keeps : Keeps p) (box number : ℕ) (q : Proc Ref) (at : Stands p box number q) where
@@ -168,7 +215,8 @@ module _ (p : Program) (keeps : Keeps p) (box number : ℕ) (q : Proc Ref) (at :
 
   -- the procedure keeps what a checked one does
   pub keeps_procedure : KeepsProcedure p.cats at.cat q
-  keeps_procedure = get_all (KeepsProcedure p.cats at.cat) at.cat.procs number q at.there (get_all (KeepsCat p.cats) p.cats at.info.cat at.cat at.cat_there keeps.cats).procs
+  keeps_procedure = get_all (KeepsProcedure p.cats at.cat) at.cat.procs number q at.there
+      (get_all (KeepsCat p.cats) p.cats at.info.cat at.cat at.cat_there keeps.cats).procs
 
   keeps_box : KeepsBox p at.info
   keeps_box = get_all (KeepsBox p) p.boxes box at.info at.box_there keeps.boxes
@@ -179,19 +227,30 @@ module _ (p : Program) (keeps : Keeps p) (box number : ℕ) (q : Proc Ref) (at :
       let found = called_is scope call r h in
       let g = found.1 in
       let same_cat : keeps_box.cat.0 ≡ at.cat = some_same (sym keeps_box.cat.1 ∙ at.cat_there) in
-      let fit : IsTrue (given_fit p.boxes at.info.given at.cat.given) = subst (λ (c : Cat Ref). IsTrue (given_fit p.boxes at.info.given c.given)) same_cat keeps_box.cat.2 in
+      let fit : IsTrue (given_fit p.boxes at.info.given at.cat.given) =
+      subst (λ (c : Cat Ref). IsTrue (given_fit p.boxes at.info.given c.given)) same_cat keeps_box.cat.2
+      in
       let t = given_box p.boxes at.info.given at.cat.given g.number g.given fit g.given_there in
-      let b = box_of_is (slice_get p.boxes t.0) g.cat (subst (λ (n : Ref). IsTrue (is_box_of (slice_get p.boxes t.0) n)) g.cat_named t.2) in
+      let b = box_of_is (slice_get p.boxes t.0) g.cat
+      (subst (λ (n : Ref). IsTrue (is_box_of (slice_get p.boxes t.0) n)) g.cat_named t.2) in
       let target : target_of p box call.target ≡ t.0 =
-      ap (target_of p box) g.named ∙ (ap (λ (o : Option BoxInfo). given_in o g.number) at.box_there ∙ get_or_from_slice_get at.info.given g.number t.0 0 t.1) in
+      ap (target_of p box) g.named ∙
+      (ap (λ (o : Option BoxInfo). given_in o g.number) at.box_there
+      ∙ get_or_from_slice_get at.info.given g.number t.0 0 t.1) in
       let mine : level_of p box ≡ at.info.level = ap level_in at.box_there in
       record {
         given = subst (λ (n : Ref). n ≡ R.Given (given_number n)) (sym g.named) refl;
-        below = subst (λ n. n < level_of p box) (sym (ap (level_of p) target)) (subst (λ n. level_of p t.0 < n) (sym (mine ∙ keeps_box.level)) (below_above (level_of p) at.info.given g.number t.0 t.1));
+        below = subst (λ n. n < level_of p box) (sym (ap (level_of p) target))
+            (subst (λ n. level_of p t.0 < n) (sym (mine ∙ keeps_box.level))
+            (below_above (level_of p) at.info.given g.number t.0 t.1));
         there = ap (λ n. procedure_of p n (method_of call.method)) target
-            ∙ (ap (λ (o : Option BoxInfo). option_and_then (λ (c : Cat Ref). slice_get c.procs (method_of call.method)) (option_and_then (λ (b : BoxInfo). slice_get p.cats b.cat) o)) b.1
-            ∙ (ap (λ k. option_and_then (λ (c : Cat Ref). slice_get c.procs (method_of call.method)) (slice_get p.cats k)) b.2
-            ∙ (ap (λ (o : Option (Cat Ref)). option_and_then (λ (c : Cat Ref). slice_get c.procs (method_of call.method)) o) g.cat_there ∙ found.2)));
+            ∙ (ap (λ (o : Option BoxInfo). option_and_then
+            (λ (c : Cat Ref). slice_get c.procs (method_of call.method))
+            (option_and_then (λ (b : BoxInfo). slice_get p.cats b.cat) o)) b.1
+            ∙ (ap (λ k. option_and_then (λ (c : Cat Ref). slice_get c.procs (method_of call.method))
+            (slice_get p.cats k)) b.2
+            ∙ (ap (λ (o : Option (Cat Ref)). option_and_then
+            (λ (c : Cat Ref). slice_get c.procs (method_of call.method)) o) g.cat_there ∙ found.2)));
       }
     where
       some_same : {A : Type 0} {x y : A} → Some x ≡ Some y → x ≡ y

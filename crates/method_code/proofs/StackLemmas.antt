@@ -1,9 +1,11 @@
 -- The procedures that wait, of which the last one goes on.
-use Rattle.std.proofs.Common.{◌≡◌, ◌-◌, ℤ, Bool, List, [], ◌∷◌, ◌++◌, length, take, Option, Some, refl, ap, ◌∙◌, arith, length-append}
+use Rattle.std.proofs.Common.{◌≡◌, ◌-◌, ℤ, Bool, List, [], ◌∷◌, ◌++◌, length, take, Option, Some, refl, ap}
+use Rattle.std.proofs.Common.{◌∙◌, arith, length-append}
 use Rattle.std.specs.Prelude.{slice_get}
 use Rattle.method_code.specs.declared.activation.Waiting.{Waiting}
 use Rattle.method_code.specs.declared.activation.Activation.{Activation}
-use Rattle.method_code.specs.Chains.{last_of, all_but_last, accepted, rejected, back_in, after_accepted, after_rejected}
+use Rattle.method_code.specs.Chains.{last_of, all_but_last, accepted, rejected, back_in, after_accepted}
+use Rattle.method_code.specs.Chains.{after_rejected}
 
 get-snoc : {X : Type 0} (xs : List X) (x : X) → slice_get (xs ++ x ∷ []) (length xs) ≡ Some x
 get-snoc [] x = refl
@@ -23,14 +25,16 @@ pub front-snoc : (ws : List Waiting) (w : Waiting) → all_but_last (ws ++ w ∷
 front-snoc ws w = ap (λ n. take n (ws ++ w ∷ [])) (one-less ws w) ∙ take-snoc ws w
 
 -- the procedure that has waited last goes on after an accepted call
-pub accepted-pops : (a : Activation) (found : Option ℤ) (ws : List Waiting) (w : Waiting) → a.waiting ≡ ws ++ w ∷ [] →
+pub accepted-pops : (a : Activation) (found : Option ℤ) (ws : List Waiting) (w : Waiting) →
+    a.waiting ≡ ws ++ w ∷ [] →
     accepted a found (last_of a.waiting) ≡ back_in ws a.plain w (after_accepted w.frame found)
 accepted-pops a found ws w h =
     ap (λ (o : Option Waiting). accepted a found o) (ap last_of h ∙ last-snoc ws w)
     ∙ ap (λ vs. back_in vs a.plain w (after_accepted w.frame found)) (ap all_but_last h ∙ front-snoc ws w)
 
 -- and after a rejected one
-pub rejected-pops : (a : Activation) (plain : Bool) (ws : List Waiting) (w : Waiting) → a.waiting ≡ ws ++ w ∷ [] →
+pub rejected-pops : (a : Activation) (plain : Bool) (ws : List Waiting) (w : Waiting) →
+    a.waiting ≡ ws ++ w ∷ [] →
     rejected a plain (last_of a.waiting) ≡ back_in ws plain w (after_rejected w)
 rejected-pops a plain ws w h =
     ap (λ (o : Option Waiting). rejected a plain o) (ap last_of h ∙ last-snoc ws w)

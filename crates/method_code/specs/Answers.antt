@@ -19,18 +19,22 @@ Acts (Err refused) acted vars slots = Unit {0}
 
 -- instructions halt at this place, with these variables and slots
 abbrev pub Halts : Result (ℕ × Move) Memory → Halted → List Value → List Value → Type 0
-Halts (Ok found) halted vars slots = halted ≡ record { at = found.0; vars = vars; slots = slots; move = found.1 }
+Halts (Ok found) halted vars slots = halted ≡ record
+    { at = found.0; vars = vars; slots = slots; move = found.1 }
 Halts (Err refused) halted vars slots = Unit {0}
 
 -- a step leaves these variables, this frame and this budget, and ends so
 abbrev pub Steps : Result End Memory → Stepped → List Value → Frame → ℕ → Type 0
-Steps (Ok end) stepped vars frame budget = stepped ≡ record { vars = vars; frame = frame; budget = budget; end = end }
+Steps (Ok end) stepped vars frame budget = stepped
+    ≡ record { vars = vars; frame = frame; budget = budget; end = end }
 Steps (Err refused) stepped vars frame budget = Unit {0}
 
 -- a step of a pass leaves the frame, the variables of its box and the budget, and ends so
 abbrev pub StepsOn : Result End Memory → Activation → State → Stepped → Activation → State → ℕ → Type 0
 StepsOn (Ok end) pass state stepped pass' state' budget' =
-    (pass' ≡ record pass { frame = stepped.frame }) × (state' ≡ with_vars state pass.box_number stepped.vars) × (end ≡ stepped.end) × (budget' ≡ stepped.budget)
+    (pass' ≡ record pass { frame = stepped.frame })
+    × (state' ≡ with_vars state pass.box_number stepped.vars) × (end ≡ stepped.end)
+    × (budget' ≡ stepped.budget)
 StepsOn (Err refused) pass state stepped pass' state' budget' = Unit {0}
 
 -- a pass goes on from this activation, on its box, or it is over

@@ -1,5 +1,5 @@
--- When an action is safe beside another one: what the steps of their passes do on a box in one order, they do
--- in the other order too (Lipton 1975).
+-- When an action is safe beside another one: what the steps of their passes do on a box in one order, they
+-- do in the other order too (Lipton 1975).
 use Rattle.std.specs.Prelude.{◌≡◌, ℕ, ◌<◌, ◌⊎◌, Bool, true, false, not, List, map, All, IsTrue, Some}
 use Rattle.seuss_base.specs.declared.level.Level.{Level}
 use Rattle.seuss_base.specs.declared.level.Level.TheVariants.{Never, Loose, Firm}
@@ -61,14 +61,15 @@ asks Never end = false
 asks Loose end = not (rejects_plainly end)
 asks Firm end = true
 
--- A step semicommutes over another one on a box, at a level: the two may change places wherever the first one
--- comes first.
+-- A step semicommutes over another one on a box, at a level: the two may change places wherever the first
+-- one comes first.
 abbrev pub Semicommutes : Program → ℕ → Level → Start → Start → Type 0
 Semicommutes p box level x y =
-    (vars : List Value) → MayHave p box vars → IsTrue (asks level (from (compiled p) x vars).end) → Swaps (compiled p) x y vars
+    (vars : List Value) → MayHave p box vars → IsTrue (asks level (from (compiled p) x vars).end) →
+    Swaps (compiled p) x y vars
 
--- Where a step of a procedure of a box may begin: at its entry with any arguments, or at another one of its places
--- with slots of the right kinds.
+-- Where a step of a procedure of a box may begin: at its entry with any arguments, or at another one of its
+-- places with slots of the right kinds.
 pub data MayBegin (p : Program) (box number : ℕ) (q : Proc Ref) (frame : Frame) : Type 0 where
   AtEntry : (args : List Value) → map kind_of args ≡ param_kinds q.params → All HasSize args →
       frame ≡ entry (compiled p) (number_of p box number) args → MayBegin p box number q frame
@@ -83,10 +84,12 @@ pub record OfPass (p : Program) (a : ActionInfo) (box : ℕ) (x : Start) : Type 
   pub among : InLine p a box number ⊎ InTail p a box number
   pub begins : MayBegin p box number procedure x.frame
 
--- An action is safe beside another one at a level: a step of the first one's pass semicommutes over each late step
--- of the second one's; and an early step, which only reads, may change places with each step of the other.
+-- An action is safe beside another one at a level: a step of the first one's pass semicommutes over each
+-- late step of the second one's; and an early step, which only reads, may change places with each step of
+-- the other.
 pub record SafeBeside (p : Program) (level : Level) (a b : ActionInfo) : Type 0 where
-  pub late : (box : ℕ) (x y : Start) → OfPass p a box x → OfPass p b box y → is_late (compiled p) y.frame ≡ true →
+  pub late : (box : ℕ) (x y : Start) → OfPass p a box x → OfPass p b box y →
+      is_late (compiled p) y.frame ≡ true →
       Semicommutes p box level x y
   pub early : (box : ℕ) (x y : Start) → OfPass p a box x → OfPass p b box y → (vars : List Value) →
       MayHave p box vars → kind_of_step (compiled p) x.frame (from (compiled p) x vars).end ≡ Early →

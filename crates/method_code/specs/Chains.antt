@@ -1,5 +1,6 @@
 -- A pass: a chain of method steps, each of which touches one box.
-use Rattle.std.specs.Prelude.{ℕ, zero, suc, ◌-◌, ℤ, Bool, true, false, if◌then◌else◌, List, [], ◌∷◌, ◌++◌, length, take, slice_get, slice_set, slice_index_or, Option, None, Some}
+use Rattle.std.specs.Prelude.{ℕ, zero, suc, ◌-◌, ℤ, Bool, true, false, if◌then◌else◌, List, [], ◌∷◌, ◌++◌}
+use Rattle.std.specs.Prelude.{length, take, slice_get, slice_set, slice_index_or, Option, None, Some}
 use Rattle.seuss_base.specs.declared.outcome.Outcome.{Outcome}
 use Rattle.seuss_base.specs.declared.outcome.Outcome.TheVariants as O
 use Rattle.seuss_base.specs.declared.outcome.PassEnd.{PassEnd}
@@ -57,11 +58,13 @@ after_accepted frame (Some z) =
 -- A caller goes on after a rejected call: it rejects too where that was its preprocedure. No total
 -- call rejects.
 abbrev pub after_rejected : Waiting → Frame
-after_rejected w = record { method = w.frame.method; place = if w.partial then 1 else w.frame.place; slots = w.frame.slots }
+after_rejected w = record
+    { method = w.frame.method; place = if w.partial then 1 else w.frame.place; slots = w.frame.slots }
 
 -- the procedure that has waited last goes on
 abbrev pub back_in : List Waiting → Bool → Waiting → Frame → Turned
-back_in waiting plain w frame = Next (record { box_number = w.box_number; frame = frame; waiting = waiting; plain = plain })
+back_in waiting plain w frame = Next
+    (record { box_number = w.box_number; frame = frame; waiting = waiting; plain = plain })
 
 abbrev pub last_of : List Waiting → Option Waiting
 last_of waiting = slice_get waiting (length waiting - 1)
@@ -107,7 +110,8 @@ abbrev pub chain : Program → ℕ → Activation → State → ℕ → Option P
 chain p zero a state budget = None
 chain p (suc steps) a state budget =
     let s = step (compiled p) a.frame budget (vars_of state a.box_number) in
-    went_on (turned p (record a { frame = s.frame }) s.end) (with_vars state a.box_number s.vars) s.budget (chain p steps)
+    went_on (turned p (record a { frame = s.frame }) s.end) (with_vars state a.box_number s.vars) s.budget
+    (chain p steps)
 
 -- the outcome of a pass
 abbrev pub outcome_of : PassEnd → Outcome

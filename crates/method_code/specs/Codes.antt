@@ -1,6 +1,7 @@
 -- What a procedure is compiled to. Code is a list of instructions, whose jumps count instructions, so
 -- the code of a statement is the same wherever it stands.
-use Rattle.std.specs.Prelude.{ℕ, ◌+◌, pos, if◌then◌else◌, List, [], ◌∷◌, ◌++◌, length, map, take, slice_get, Option, None, Some}
+use Rattle.std.specs.Prelude.{ℕ, ◌+◌, pos, if◌then◌else◌, List, [], ◌∷◌, ◌++◌, length, map, take, slice_get}
+use Rattle.std.specs.Prelude.{Option, None, Some}
 use Rattle.std.specs.List.{flat_map}
 use Rattle.seuss_program.specs.declared.tree.Ref.{Ref}
 use Rattle.seuss_program.specs.declared.tree.Ref.TheVariants as R
@@ -38,13 +39,15 @@ given_number (R.Cat number) = 0
 
 -- a call, as the code has it
 abbrev pub call_code : Call Ref → CallCode
-call_code call = record { target = given_number call.target; method = method_of call.method; args = call.args }
+call_code call = record
+    { target = given_number call.target; method = method_of call.method; args = call.args }
 
 -- code is put together in the order of the text
 abbrev pub joined : List (List Instruction) → List Instruction
 joined parts = flat_map (λ part. part) parts
 
--- a choice passes over the first branch where its condition is false, and over the second one behind the first
+-- a choice passes over the first branch where its condition is false, and over the second one behind the
+-- first
 abbrev pub if_code : Expr Ref → List Instruction → List Instruction → List Instruction
 if_code cond holds fails = I.SkipUnless cond (length holds + 1) ∷ (holds ++ I.Skip (length fails) ∷ fails)
 
@@ -83,7 +86,8 @@ alternative_code alt = take_code alt.pre ++ (flat_map code_of alt.body ++ last_c
 abbrev pub heads : ℕ → List (Alternative Ref) → List Head
 heads at [] = []
 heads at (alt ∷ alts) =
-    record { cond = alt.cond; early = early_of alt.pre; start = at } ∷ heads (at + length (alternative_code alt)) alts
+    record { cond = alt.cond; early = early_of alt.pre; start = at }
+    ∷ heads (at + length (alternative_code alt)) alts
 
 -- The code of a form: a body with its return; or a rejection, at which a caller goes on whose
 -- preprocedure rejected, and then the alternatives.

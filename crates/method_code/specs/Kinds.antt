@@ -1,5 +1,6 @@
 -- The kinds of method steps, and the steps of a pass between which others may change the variables.
-use Rattle.std.specs.Prelude.{◌≡◌, ℕ, Bool, true, false, ◌||◌, not, ◌==◌, List, [], ◌∷◌, ◌++◌, map, replicate, slice_get, Option, None, Some, IsTrue}
+use Rattle.std.specs.Prelude.{◌≡◌, ℕ, Bool, true, false, ◌||◌, not, ◌==◌, List, [], ◌∷◌, ◌++◌, map}
+use Rattle.std.specs.Prelude.{replicate, slice_get, Option, None, Some, IsTrue}
 use Rattle.seuss_base.specs.declared.outcome.PassEnd.{PassEnd}
 use Rattle.seuss_base.specs.declared.outcome.PassEnd.TheVariants as P
 use Rattle.seuss_program.specs.declared.tree.Proc.{Proc}
@@ -84,7 +85,8 @@ end_on (Over end) budget ends = Some end
 abbrev pub pass_end : Program → List (List Value) → Activation → ℕ → Option PassEnd
 pass_end p [] a budget = None
 pass_end p (vars ∷ row) a budget =
-    let s = step (compiled p) a.frame budget vars in end_on (turned p (record a { frame = s.frame }) s.end) s.budget (pass_end p row)
+    let s = step (compiled p) a.frame budget vars in
+    end_on (turned p (record a { frame = s.frame }) s.end) s.budget (pass_end p row)
 
 -- an action of its box
 pub record IsAction (p : Program) (a : ActionInfo) : Type 0 where
@@ -123,7 +125,8 @@ AllIdle (s ∷ steps) = (s.stepped.vars ≡ s.vars) × AllIdle steps
 
 -- A step that isn't late and only reads: it leaves the variables and the budget that it found, and a
 -- procedure that waits after it keeps its slots.
-pub record OnlyReads (code : List Method) (frame : Frame) (budget : ℕ) (vars : List Value) (s : Stepped) : Type 0 where
+pub record OnlyReads (code : List Method) (frame : Frame) (budget : ℕ) (vars : List Value) (s : Stepped) :
+    Type 0 where
   pub fresh : is_late code frame ≡ false
   pub variables : s.vars ≡ vars
   pub free : s.budget ≡ budget

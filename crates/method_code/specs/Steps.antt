@@ -1,6 +1,8 @@
 -- A method step: the run of one procedure's own instructions, from its entry or from the return of a
 -- call, up to its next call, its return, its rejection, a trap or the end of the budget.
-use Rattle.std.specs.Prelude.{ℕ, zero, suc, ◌+◌, ◌-◌, ℤ, pos, true, false, if◌then◌else◌, List, [], ◌∷◌, ◌++◌, length, take, drop, slice_get, slice_set, slice_index_or, Option, None, Some, Result, Ok, Err}
+use Rattle.std.specs.Prelude.{ℕ, zero, suc, ◌+◌, ◌-◌, ℤ, pos, true, false, if◌then◌else◌, List, [], ◌∷◌}
+use Rattle.std.specs.Prelude.{◌++◌, length, take, drop, slice_get, slice_set, slice_index_or, Option, None}
+use Rattle.std.specs.Prelude.{Some, Result, Ok, Err}
 use Rattle.seuss_base.specs.declared.outcome.Trap.{Trap}
 use Rattle.seuss_program.specs.declared.tree.Ref.{Ref}
 use Rattle.seuss_program.specs.declared.tree.Ref.TheVariants as R
@@ -65,9 +67,11 @@ called_with call (Ok args) = M.Call call.target call.method args
 -- what one instruction does
 abbrev pub acted : Instruction → List Value → List Value → Acted
 acted (I.Set name e) vars slots = put_value name (value e vars slots) vars slots
-acted (I.SkipUnless cond many) vars slots = acts vars slots (decided (value cond vars slots) (M.On 0) (M.On many))
+acted (I.SkipUnless cond many) vars slots = acts vars slots
+    (decided (value cond vars slots) (M.On 0) (M.On many))
 acted (I.Skip many) vars slots = acts vars slots (M.On many)
-acted (I.Again cond many) vars slots = acts vars slots (decided (value cond vars slots) (M.Back many) (M.On 0))
+acted (I.Again cond many) vars slots = acts vars slots
+    (decided (value cond vars slots) (M.Back many) (M.On 0))
 acted (I.Call call) vars slots = acts vars slots (called_with call (arguments call.args vars slots))
 acted (I.Take name) vars slots = taken name vars slots
 acted I.Return vars slots = acts vars slots M.Return
@@ -96,7 +100,8 @@ walked (M.Trap t) at a next = halts at a
 abbrev pub walk : List Instruction → ℕ → ℕ → List Value → List Value → Halted
 walk [] at skip vars slots = halts (at + skip) (acts vars slots M.Reject)
 walk (i ∷ is) at (suc skip) vars slots = walk is (suc at) skip vars slots
-walk (i ∷ is) at zero vars slots = walked (acted i vars slots).move at (acted i vars slots) (walk is (suc at))
+walk (i ∷ is) at zero vars slots = walked (acted i vars slots).move at (acted i vars slots)
+    (walk is (suc at))
 
 -- what a step leaves: the variables of the box, the frame and the budget after it, and its end
 pub record Stepped : Type 0 where
@@ -108,12 +113,24 @@ pub record Stepped : Type 0 where
 -- a step that leaves its procedure
 abbrev pub leaves : ℕ → ℕ → List Value → End → Stepped
 leaves method budget vars end =
-    record { vars = vars; frame = record { method = method; place = 0; slots = [] }; budget = budget; end = end }
+    record {
+      vars = vars;
+      frame = record { method = method; place = 0; slots = [] };
+      budget = budget;
+      end =
+          end;
+    }
 
 -- A step that calls. Its procedure waits behind the instruction that takes the result.
 abbrev pub waits : ℕ → ℕ → ℕ → List Value → List Value → End → Stepped
 waits method start budget vars slots end =
-    record { vars = vars; frame = record { method = method; place = start + 2; slots = slots }; budget = budget; end = end }
+    record {
+      vars = vars;
+      frame = record { method = method; place = start + 2; slots = slots };
+      budget =
+          budget;
+      end = end;
+    }
 
 -- a call that is to be paid for
 abbrev pub paid : ℕ → ℕ → ℕ → List Value → List Value → End → Stepped
@@ -128,17 +145,21 @@ result_in (Some at) slots = Some (int_of (slice_index_or slots at (V.Int (pos 0)
 abbrev pub settled : Method → ℕ → ℕ → (ℕ → List Value → List Value → Stepped) → Halted → Move → Stepped
 settled m method budget turn h (M.On many) = leaves method budget h.vars E.Rejected
 settled m method budget turn h (M.Back many) = turn (h.at - many) h.vars h.slots
-settled m method budget turn h (M.Call target called args) = paid method budget h.at h.vars h.slots (E.Call target called args false)
-settled m method budget turn h M.Return = leaves method budget h.vars (E.Returned (result_in m.result h.slots))
+settled m method budget turn h (M.Call target called args) =
+    paid method budget h.at h.vars h.slots (E.Call target called args false)
+settled m method budget turn h M.Return = leaves method budget h.vars
+    (E.Returned (result_in m.result h.slots))
 settled m method budget turn h M.Reject = leaves method budget h.vars E.Rejected
 settled m method budget turn h (M.Trap t) = leaves method budget h.vars (E.Trapped t)
 
 -- a step that begins at an instruction
 abbrev pub runs : Method → ℕ → ℕ → ℕ → List Value → List Value → Stepped
 runs m method zero at vars slots =
-    let h = walk (drop at m.instructions) at 0 vars slots in settled m method 0 (λ to vs ss. leaves method 0 vs E.Spent) h h.move
+    let h = walk (drop at m.instructions) at 0 vars slots in
+    settled m method 0 (λ to vs ss. leaves method 0 vs E.Spent) h h.move
 runs m method (suc budget) at vars slots =
-    let h = walk (drop at m.instructions) at 0 vars slots in settled m method (suc budget) (runs m method budget) h h.move
+    let h = walk (drop at m.instructions) at 0 vars slots in
+    settled m method (suc budget) (runs m method budget) h h.move
 
 -- the first alternative whose precondition holds
 abbrev pub judged_head : Evaluated → Head → Result (Option Head) Trap → Result (Option Head) Trap
@@ -147,17 +168,20 @@ judged_head (Ok v) head others = if bool_of v then Ok (Some head) else others
 
 abbrev pub chosen_head : List Head → List Value → List Value → Result (Option Head) Trap
 chosen_head [] vars slots = Ok None
-chosen_head (head ∷ others) vars slots = judged_head (value head.cond vars slots) head (chosen_head others vars slots)
+chosen_head (head ∷ others) vars slots = judged_head (value head.cond vars slots) head
+    (chosen_head others vars slots)
 
 -- the call of a preprocedure, which costs nothing
 abbrev pub called_early : ℕ → ℕ → ℕ → CallCode → Result (List Value) Trap → List Value → List Value → Stepped
 called_early method start budget call (Err t) vars slots = leaves method budget vars (E.Trapped t)
-called_early method start budget call (Ok args) vars slots = waits method start budget vars slots (E.Call call.target call.method args true)
+called_early method start budget call (Ok args) vars slots =
+    waits method start budget vars slots (E.Call call.target call.method args true)
 
 -- the chosen alternative begins
 abbrev pub begun : Method → ℕ → ℕ → ℕ → Option CallCode → List Value → List Value → Stepped
 begun m method budget start None vars slots = runs m method budget start vars slots
-begun m method budget start (Some call) vars slots = called_early method start budget call (arguments call.args vars slots) vars slots
+begun m method budget start (Some call) vars slots =
+    called_early method start budget call (arguments call.args vars slots) vars slots
 
 -- a procedure that may reject begins
 abbrev pub chosen : Method → ℕ → ℕ → Result (Option Head) Trap → List Value → List Value → Stepped
@@ -167,7 +191,8 @@ chosen m method budget (Ok (Some head)) vars slots = begun m method budget head.
 
 abbrev pub entered : Method → ℕ → ℕ → Entry → List Value → List Value → Stepped
 entered m method budget N.Total vars slots = runs m method budget 0 vars slots
-entered m method budget (N.Partial heads) vars slots = chosen m method budget (chosen_head heads vars slots) vars slots
+entered m method budget (N.Partial heads) vars slots =
+    chosen m method budget (chosen_head heads vars slots) vars slots
 
 -- a step from a place: the entry, or an instruction
 abbrev pub from_place : Method → ℕ → ℕ → ℕ → List Value → List Value → Stepped
@@ -188,4 +213,5 @@ locals_in None = []
 locals_in (Some m) = m.locals
 
 abbrev pub entry : List Method → ℕ → List Value → Frame
-entry code method args = record { method = method; place = 0; slots = args ++ locals_in (slice_get code method) }
+entry code method args = record
+    { method = method; place = 0; slots = args ++ locals_in (slice_get code method) }

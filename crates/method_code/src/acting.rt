@@ -2,7 +2,9 @@ ghost use Rattle.std.specs.Prelude.{◌≡◌, ◌≤◌, ◌<◌, ◌⊎◌, le
 ghost use Rattle.seuss_program.specs.Values.{value};
 ghost use Rattle.seuss_program.specs.Bodies.{arguments as arguments_of};
 ghost use Rattle.method_code.specs.declared.instruction.Move.TheVariants.{On as GoesOn, Reject as Rejects};
-ghost use Rattle.method_code.specs.Steps.{acts, acted, put as put_of, put_value, taken, decided, called_with, last_number, all_but_last, walk};
+ghost use Rattle.method_code.specs.Steps.{acts, acted, put as put_of, put_value, taken, decided};
+ghost use Rattle.method_code.specs.Steps.{called_with};
+ghost use Rattle.method_code.specs.Steps.{last_number, all_but_last, walk};
 ghost use Rattle.method_code.specs.Answers.{Acts, Halts};
 
 use crate::instruction::{CallCode, Instruction, Move};
@@ -31,7 +33,8 @@ fn set(
     vars: &mut List<Value>,
     slots: &mut List<Value>,
 ) -> Result<Move, Memory>
-    ensures { Acts result (put_value name (value expr.now vars.old slots.old) vars.old slots.old) vars.new slots.new }
+    ensures { Acts result (put_value name (value expr.now vars.old slots.old) vars.old slots.old) vars.new
+        slots.new }
 {
     match value_of(alloc, expr, vars, slots)? {
         Ok(found) => {
@@ -66,7 +69,8 @@ fn call(
     vars: &List<Value>,
     slots: &List<Value>,
 ) -> Result<Move, Memory>
-    ensures { IfOk result (λ move. move ≡ called_with callee.now (arguments_of callee.now.args vars.now slots.now)) }
+    ensures { IfOk result
+        (λ move. move ≡ called_with callee.now (arguments_of callee.now.args vars.now slots.now)) }
 {
     match arguments(alloc, &callee.args, vars, slots)? {
         Ok(args) => Ok(Move::Call {
@@ -137,7 +141,8 @@ pub fn walk_on(
     slots: &mut List<Value>,
 ) -> Result<(u64, Move), Memory>
     requires { length instructions.now ≤ 4000000000 }
-    ensures halt { Halts result (walk (drop start instructions.now) start 0 vars.old slots.old) vars.new slots.new }
+    ensures halt { Halts result (walk (drop start instructions.now) start 0 vars.old slots.old) vars.new
+        slots.new }
     ensures within { IfOk result (λ found. (found.0 < length instructions.now) ⊎ (found.1 ≡ Rejects)) }
 {
     let mut at = start;

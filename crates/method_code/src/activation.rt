@@ -2,7 +2,9 @@ ghost use Rattle.std.specs.Prelude.{◌≡◌, ◌++◌, ◌∷◌, [], pos, sli
 ghost use Rattle.std.specs.Borrow.{sem};
 ghost use Rattle.seuss_program.specs.declared.state.Value.TheVariants.{Int};
 ghost use Rattle.method_code.specs.Codes.{compiled};
-ghost use Rattle.method_code.specs.Chains.{Next, last_of, beginning, calling, after_accepted, after_rejected, accepted, rejected, turned};
+ghost use Rattle.method_code.specs.Chains.{Next, last_of, beginning, calling, after_accepted};
+ghost use Rattle.method_code.specs.Chains.{after_rejected};
+ghost use Rattle.method_code.specs.Chains.{accepted, rejected, turned};
 ghost use Rattle.method_code.specs.Answers.{Turns};
 ghost use Rattle.method_code.specs.Lending.{LendsFrame};
 

@@ -2,7 +2,9 @@ ghost use Rattle.std.specs.Prelude.{◌≡◌, ◌≤◌, [], ◌∷◌, ◌++�
 ghost use Rattle.std.specs.List.{flat_map};
 ghost use Rattle.method_code.specs.declared.instruction.Instruction.TheVariants.{Reject as Rejects};
 ghost use Rattle.method_code.specs.declared.method.Entry.TheVariants.{Partial as MayReject};
-ghost use Rattle.method_code.specs.Codes.{early_of, take_code, last_code, alternative_code, heads as heads_of, entry_of, form_code, method_code, cats_code, compiled};
+ghost use Rattle.method_code.specs.Codes.{early_of, take_code, last_code, alternative_code};
+ghost use Rattle.method_code.specs.Codes.{heads as heads_of};
+ghost use Rattle.method_code.specs.Codes.{entry_of, form_code, method_code, cats_code, compiled};
 ghost use Rattle.method_code.specs.Fits.{Fits, HasStarts};
 
 use crate::code::Code;
@@ -56,7 +58,13 @@ fn emit_take(alloc: Global, pre: &Option<Pre<Ref>>) -> Result<List<Instruction>,
 
 /// How an alternative begins, whose code starts at this instruction.
 fn head_of(alloc: Global, alternative: &Alternative<Ref>, start: u32) -> Result<Head, Memory>
-    ensures { IfOk result (λ h. h ≡ record { cond = alternative.now.cond; early = early_of alternative.now.pre; start = start }) }
+    ensures { IfOk result
+        (λ h. h ≡ record {
+          cond = alternative.now.cond;
+          early = early_of alternative.now.pre;
+          start =
+              start;
+        }) }
 {
     let cond = copy_expr(alloc, &alternative.cond)?;
     let early = early_call(alloc, &alternative.pre)?;

@@ -1,6 +1,7 @@
 ghost use Rattle.std.specs.Prelude.{◌≡◌, ◌≤◌, [], ◌∷◌, ◌++◌, length, IfOk, OnOk};
 ghost use Rattle.std.specs.List.{flat_map};
-ghost use Rattle.method_code.specs.Codes.{given_number as given_of, call_code, if_code as if_of, while_code as while_of, code_of};
+ghost use Rattle.method_code.specs.Codes.{given_number as given_of, call_code, if_code as if_of};
+ghost use Rattle.method_code.specs.Codes.{while_code as while_of, code_of};
 ghost use Rattle.seuss_program.specs.Programs.{method_of};
 
 use crate::copies::{copy_args, copy_expr};

@@ -1,6 +1,7 @@
 //! Laws of compiled code.
 
-ghost use Rattle.std.specs.Prelude.{◌≡◌, ◌+◌, ◌*◌, ◌≤◌, ℕ, suc, Some, true, false, List, length, IsTrue, slice_get};
+ghost use Rattle.std.specs.Prelude.{◌≡◌, ◌+◌, ◌*◌, ◌≤◌, ℕ, suc, Some, true, false, List, length, IsTrue};
+ghost use Rattle.std.specs.Prelude.{slice_get};
 ghost use Rattle.std.specs.List.{list_any};
 ghost use Rattle.seuss_program.specs.declared.program.Program.{Program};
 ghost use Rattle.seuss_program.specs.declared.program.ActionInfo.{ActionInfo};
@@ -24,7 +25,9 @@ ghost use Rattle.method_code.specs.Steps.{step, entry, leaves};
 ghost use Rattle.method_code.specs.Frames.{IsFrame, HasVars, FitsStep};
 ghost use Rattle.method_code.specs.OwnSteps.{EachMade, FindsVars, IsOwnStep};
 ghost use Rattle.method_code.specs.Singles.{IsRun, is_single, is_plainly_rejected};
-ghost use Rattle.method_code.specs.Kinds.{steps_made, pass_end, kinds_of, IsAction, IsInOrder, AllIdle, Made, is_plain, rejects_plainly, calls_early, OnlyReads};
+ghost use Rattle.method_code.specs.Kinds.{steps_made, pass_end, kinds_of, IsAction, IsInOrder, AllIdle};
+ghost use Rattle.method_code.specs.Kinds.{Made};
+ghost use Rattle.method_code.specs.Kinds.{is_plain, rejects_plainly, calls_early, OnlyReads};
 ghost use Rattle.method_code.specs.Passes.{EndsAs};
 
 /// A chain of steps is the attempt. It is over after two steps for each 1 of the budget, two for each
@@ -50,7 +53,8 @@ pub fn pass_is_over_in_time()
 
 /// A finished pass of an action has one commit step, with early steps before it and late ones after it.
 pub fn pass_commits_once()
-    ensures { (p : Program) (a : ActionInfo) (row : List (List Value)) (budget : ℕ) (end : PassEnd) → Keeps p →
+    ensures { (p : Program) (a : ActionInfo) (row : List (List Value)) (budget : ℕ) (end : PassEnd) →
+        Keeps p →
         IsAction p a → pass_end p row (begun p a) budget ≡ Some end →
         IsInOrder (kinds_of (compiled p) (steps_made p row (begun p a) budget)) }
 {}
@@ -58,9 +62,11 @@ pub fn pass_commits_once()
 /// A finished pass of an action is plainly rejected exactly where one of its steps is a plain rejection.
 /// Then it has changed nothing.
 pub fn plain_pass_is_idle()
-    ensures exactly { (p : Program) (a : ActionInfo) (row : List (List Value)) (budget : ℕ) (end : PassEnd) → Keeps p →
+    ensures exactly { (p : Program) (a : ActionInfo) (row : List (List Value)) (budget : ℕ) (end : PassEnd)
+        → Keeps p →
         IsAction p a → pass_end p row (begun p a) budget ≡ Some end →
-        is_plain end ≡ list_any (λ (s : Made). rejects_plainly s.stepped.end) (steps_made p row (begun p a) budget) }
+        is_plain end ≡ list_any (λ (s : Made). rejects_plainly s.stepped.end)
+        (steps_made p row (begun p a) budget) }
     ensures idle { (p : Program) (a : ActionInfo) (row : List (List Value)) (budget : ℕ) → Keeps p →
         IsAction p a → pass_end p row (begun p a) budget ≡ Some PlainRejected →
         AllIdle (steps_made p row (begun p a) budget) }
@@ -78,7 +84,8 @@ pub fn early_step_is_idle()
 
 /// From the rejection place of a procedure a step only ends rejected, and changes nothing.
 pub fn rejection_place_only_rejects()
-    ensures { (p : Program) (box number : ℕ) (q : Proc Ref) (slots : List Value) (budget : ℕ) (vars : List Value) →
+    ensures { (p : Program) (box number : ℕ) (q : Proc Ref) (slots : List Value) (budget : ℕ)
+        (vars : List Value) →
         procedure_of p box number ≡ Some q → is_total q.form ≡ false →
         step (compiled p) (record { method = number_of p box number; place = 1; slots = slots }) budget vars
         ≡ leaves (number_of p box number) budget vars Rejected }
@@ -92,17 +99,21 @@ pub fn actions_are_actions()
 
 /// For a procedure without preprocedures, calls and loops the one step from its entry is its run.
 pub fn single_step_is_run()
-    ensures { (p : Program) (depth box number : ℕ) (q : Proc Ref) (args : List Value) (state : State) (budget : ℕ) →
+    ensures { (p : Program) (depth box number : ℕ) (q : Proc Ref) (args : List Value) (state : State)
+        (budget : ℕ) →
         procedure_of p box number ≡ Some q → IsTrue (is_single q.form) →
-        IsRun (step (compiled p) (entry (compiled p) (number_of p box number) args) budget (vars_of state box))
+        IsRun (step (compiled p) (entry (compiled p) (number_of p box number) args) budget
+        (vars_of state box))
         box state budget (attempt p (suc depth) box number args state budget) }
 {}
 
 /// A step from an entry rejects plainly exactly where no precondition holds.
 pub fn plain_rejection_is_told()
-    ensures { (p : Program) (box number : ℕ) (q : Proc Ref) (args : List Value) (vars : List Value) (budget : ℕ) →
+    ensures { (p : Program) (box number : ℕ) (q : Proc Ref) (args : List Value) (vars : List Value)
+        (budget : ℕ) →
         procedure_of p box number ≡ Some q →
-        rejects_plainly (step (compiled p) (entry (compiled p) (number_of p box number) args) budget vars).end
+        rejects_plainly (step (compiled p) (entry (compiled p) (number_of p box number) args) budget
+        vars).end
         ≡ is_plainly_rejected q.form vars (entry_slots q args) }
 {}
 
@@ -117,7 +128,8 @@ pub fn step_keeps_form()
 /// A pass of an action whose steps find variables of their boxes stays among the frames of that action's
 /// line and tail.
 pub fn pass_stays_among_its_own()
-    ensures { (p : Program) (a : ActionInfo) (row : List (List Value)) (budget : ℕ) → Keeps p → IsAction p a →
+    ensures { (p : Program) (a : ActionInfo) (row : List (List Value)) (budget : ℕ) → Keeps p →
+        IsAction p a →
         EachMade (FindsVars p) (steps_made p row (begun p a) budget) →
         EachMade (IsOwnStep p a) (steps_made p row (begun p a) budget) }
 {}

@@ -22,7 +22,8 @@ const MOST_STEPS: u32 = 2_000_300;
 /// Takes the variables of a box out of a state. A box that isn't there has none.
 fn take_vars(alloc: Global, state: &mut State, box_number: u32) -> Vars
     ensures value { result.values ≡ vars_of state.old box_number }
-    ensures back { (vars : Vars) → slice_set state.new.boxes box_number vars ≡ slice_set state.old.boxes box_number vars }
+    ensures back { (vars : Vars) → slice_set state.new.boxes box_number vars
+        ≡ slice_set state.old.boxes box_number vars }
     ensures same { length state.new.boxes ≡ length state.old.boxes }
 {
     let none = Vars {
@@ -93,9 +94,11 @@ pub fn attempt_by_steps(
     requires within { action < length program.now.actions }
     requires small { budget ≤ 1000000 }
     ensures outcome { IfOk result (λ outcome.
-        outcome ≡ (action_attempt program.now (slice_get program.now.actions action) state.old budget).outcome) }
+        outcome ≡ (action_attempt program.now (slice_get program.now.actions action) state.old
+        budget).outcome) }
     ensures state { OnOk result
-        (state.new ≡ (action_attempt program.now (slice_get program.now.actions action) state.old budget).state) }
+        (state.new ≡ (action_attempt program.now (slice_get program.now.actions action) state.old
+        budget).state) }
 {
     chain_is_attempt();
     let mut pass = Activation::begin(alloc, code, program, action)?;

@@ -3,7 +3,8 @@ ghost use Rattle.seuss_program.specs.Values.{int_of};
 ghost use Rattle.seuss_program.specs.declared.state.Value.TheVariants.{Int};
 ghost use Rattle.seuss_program.specs.Bodies.{arguments as arguments_of};
 ghost use Rattle.method_code.specs.Fits.{Fits, HasStarts};
-ghost use Rattle.method_code.specs.Steps.{paid, runs, result_in, chosen_head, called_early, begun, chosen, entered, from_place, step as step_of};
+ghost use Rattle.method_code.specs.Steps.{paid, runs, result_in, chosen_head, called_early, begun, chosen};
+ghost use Rattle.method_code.specs.Steps.{entered, from_place, step as step_of};
 ghost use Rattle.method_code.specs.Answers.{Steps};
 
 use crate::acting::walk_on;
@@ -71,7 +72,8 @@ fn run(
     budget: &mut u64,
 ) -> Result<End, Memory>
     requires { Fits method.now }
-    ensures { Steps result (runs method.now frame.old.method budget.old start vars.old frame.old.slots) vars.new frame.new budget.new }
+    ensures { Steps result (runs method.now frame.old.method budget.old start vars.old frame.old.slots)
+        vars.new frame.new budget.new }
 {
     let mut at = start;
     loop {
@@ -118,7 +120,8 @@ fn call_early(
 ) -> Result<End, Memory>
     requires { start ≤ 4000000000 }
     ensures { (budget : ℕ) → Steps result
-        (called_early frame.old.method start budget call.now (arguments_of call.now.args vars.now frame.old.slots) vars.now frame.old.slots)
+        (called_early frame.old.method start budget call.now
+        (arguments_of call.now.args vars.now frame.old.slots) vars.now frame.old.slots)
         vars.now frame.new budget }
 {
     match arguments(alloc, &call.args, vars, &frame.slots)? {
@@ -146,7 +149,9 @@ fn begin(
 ) -> Result<End, Memory>
     requires fits { Fits method.now }
     requires starts { head.now.start ≤ 4000000000 }
-    ensures { Steps result (begun method.now frame.old.method budget.old head.now.start head.now.early vars.old frame.old.slots) vars.new frame.new budget.new }
+    ensures { Steps result
+        (begun method.now frame.old.method budget.old head.now.start head.now.early vars.old
+        frame.old.slots) vars.new frame.new budget.new }
 {
     match &head.early {
         None => run(alloc, method, head.start as u64, vars, frame, budget),
@@ -165,7 +170,9 @@ fn choose(
 ) -> Result<End, Memory>
     requires fits { Fits method.now }
     requires starts { All (λ h. h.start ≤ 4000000000) heads.now }
-    ensures { Steps result (chosen method.now frame.old.method budget.old (chosen_head heads.now vars.old frame.old.slots) vars.old frame.old.slots) vars.new frame.new budget.new }
+    ensures { Steps result
+        (chosen method.now frame.old.method budget.old (chosen_head heads.now vars.old frame.old.slots)
+        vars.old frame.old.slots) vars.new frame.new budget.new }
 {
     for head in heads {
         match value_of(alloc, &head.cond, vars, &frame.slots)? {
@@ -189,7 +196,9 @@ fn step_method(
     budget: &mut u64,
 ) -> Result<End, Memory>
     requires { Fits method.now }
-    ensures { Steps result (from_place method.now frame.old.method budget.old frame.old.place vars.old frame.old.slots) vars.new frame.new budget.new }
+    ensures { Steps result
+        (from_place method.now frame.old.method budget.old frame.old.place vars.old frame.old.slots)
+        vars.new frame.new budget.new }
 {
     if frame.place > 0 {
         let start = frame.place as u64 - 1;
@@ -212,7 +221,8 @@ pub fn step(
     frame: &mut Frame,
     budget: &mut u64,
 ) -> Result<End, Memory>
-    ensures { Steps result (step_of code.now frame.old budget.old vars.old.values) vars.new.values frame.new budget.new }
+    ensures { Steps result (step_of code.now frame.old budget.old vars.old.values) vars.new.values frame.new
+        budget.new }
 {
     match code.methods.get(frame.method as u64) {
         Some(method) => step_method(alloc, method, &mut vars.values, frame, budget),

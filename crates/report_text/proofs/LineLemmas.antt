@@ -1,5 +1,6 @@
 -- What a line of a report tells by the bytes that it begins with.
-use Rattle.std.proofs.Common.{◌≡◌, ℕ, ◌==◌, if◌then◌else◌, List, [], ◌∷◌, ◌++◌, codes, Option, None, Some, option_and_then, drop, refl, sym, ◌∙◌, ap, subst, append_assoc, arith}
+use Rattle.std.proofs.Common.{◌≡◌, ℕ, ◌==◌, if◌then◌else◌, List, [], ◌∷◌, ◌++◌, codes, Option, None, Some}
+use Rattle.std.proofs.Common.{option_and_then, drop, refl, sym, ◌∙◌, ap, subst, append_assoc, arith}
 use Rattle.std.specs.Prelude.{slice_get, All}
 use Rattle.std.proofs.lemmas.Option.{slice_get_within, get_or_from_slice_get}
 use Rattle.std.proofs.lemmas.List.{append_cancel_left}
@@ -22,7 +23,8 @@ use Rattle.seuss_program.specs.declared.order.Placed.{Placed}
 use Rattle.seuss_program.specs.declared.order.LastLine.{LastLine}
 use Rattle.seuss_program.specs.declared.order.LastLine.TheVariants as L
 use Rattle.seuss_program.specs.Programs.{cat_of, procedure_of}
-use Rattle.seuss_program.specs.Reports.{line, outcome_text, value_text, box_name, proc_name, attempt_line, var_line, var_lines, vars_in, box_lines, last_line_text, end_text}
+use Rattle.seuss_program.specs.Reports.{line, outcome_text, value_text, box_name, proc_name, attempt_line}
+use Rattle.seuss_program.specs.Reports.{var_line, var_lines, vars_in, box_lines, last_line_text, end_text}
 use Rattle.report_text.specs.Names.{IsName, HasNamesInside, HasNames}
 use Rattle.report_text.proofs.WordLemmas.{IsWord, name_is_word, behind, behind_word, same_words}
 

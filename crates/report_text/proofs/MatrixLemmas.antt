@@ -1,5 +1,6 @@
 -- The lines of certificates and of rows of levels, written one after the other.
-use Rattle.std.proofs.Common.{◌≡◌, ◌⊎◌, ℕ, zero, suc, ◌+◌, List, [], ◌∷◌, ◌++◌, ◌<◌, get_or, length, map, take, drop, refl, sym, ◌∙◌, ap, inl, inr, arith, append_assoc}
+use Rattle.std.proofs.Common.{◌≡◌, ◌⊎◌, ℕ, zero, suc, ◌+◌, List, [], ◌∷◌, ◌++◌, ◌<◌, get_or, length, map}
+use Rattle.std.proofs.Common.{take, drop, refl, sym, ◌∙◌, ap, inl, inr, arith, append_assoc}
 use Rattle.std.proofs.lemmas.List.{length-append, length-map, length-drop}
 use Rattle.std.specs.List.{flat_map, range_with_len}
 use Rattle.seuss_base.specs.declared.level.Level.{Level}
@@ -15,9 +16,12 @@ abbrev pub of_cat : Cat Ref → List (Semi Ref) → List (Cat Ref × Semi Ref)
 of_cat c semis = map (λ (s : Semi Ref). (c, s)) semis
 
 -- the line of the first of the certificates that are left is written
-pub certificate_written : (c : Cat Ref) (s : Semi Ref) (level : Level) (ss ss' : List (Semi Ref)) (ls ls' : List Level)
-    (text after whole : List ℕ) → ss ≡ s ∷ ss' → ls ≡ level ∷ ls' → after ≡ text ++ certificate_line c s level →
-    text ++ certificate_lines (of_cat c ss) ls ≡ whole → after ++ certificate_lines (of_cat c ss') ls' ≡ whole
+pub certificate_written : (c : Cat Ref) (s : Semi Ref) (level : Level) (ss ss' : List (Semi Ref))
+    (ls ls' : List Level)
+    (text after whole : List ℕ) → ss ≡ s ∷ ss' → ls ≡ level ∷ ls' →
+    after ≡ text ++ certificate_line c s level →
+    text ++ certificate_lines (of_cat c ss) ls ≡ whole →
+    after ++ certificate_lines (of_cat c ss') ls' ≡ whole
 certificate_written c s level ss ss' ls ls' text after whole first second written e =
     piece_written text (certificate_line c s level) (certificate_lines (of_cat c ss) ls)
     (certificate_lines (of_cat c ss') ls') after whole written (rw (first, second) refl) e
@@ -43,38 +47,45 @@ lines_split (x ∷ xs) ys (level ∷ ls) many =
     (certificate_lines ys (drop (length xs) ls)))
 
 -- the certificates from a cat on are its own and those behind it
-certificates_from : (cats : List (Cat Ref)) (at : ℕ) (c : Cat Ref) → at < length cats → c ≡ get_or cats at c →
+certificates_from : (cats : List (Cat Ref)) (at : ℕ) (c : Cat Ref) → at < length cats →
+    c ≡ get_or cats at c →
     certificates (drop at cats) ≡ of_cat c c.semis ++ certificates (drop (at + 1) cats)
 certificates_from [] at c within is = absurd (omega (arith, within))
 certificates_from (d ∷ ds) zero c within is =
     let same : d ≡ c = sym is in ap (λ (x : Cat Ref). of_cat x x.semis ++ certificates ds) same
 certificates_from (d ∷ ds) (suc at) c within is =
-    let more : suc at + 1 ≡ suc (at + 1) = omega arith in rw more (certificates_from ds at c (omega (arith, within)) is)
+    let more : suc at + 1 ≡ suc (at + 1) = omega arith in
+    rw more (certificates_from ds at c (omega (arith, within)) is)
 
 -- what is written of the cats so far, and the levels that are left for the others
-pub record HasWritten (cats : List (Cat Ref)) (at : ℕ) (rest : List Level) (text whole : List ℕ) : Type 0 where
-  pub written : text ++ certificate_lines (certificates (drop at cats)) rest ≡ whole
-  pub many : length rest ≡ length (certificates (drop at cats))
+pub record HasWritten (cats : List (Cat Ref)) (at : ℕ) (rest : List Level) (text whole : List ℕ) : Type 0
+  where
+    pub written : text ++ certificate_lines (certificates (drop at cats)) rest ≡ whole
+    pub many : length rest ≡ length (certificates (drop at cats))
 
 -- a cat has at most as many certificates as levels are left
-pub enough_levels : (cats : List (Cat Ref)) (at : ℕ) (c : Cat Ref) (rest : List Level) (text whole : List ℕ) →
+pub enough_levels : (cats : List (Cat Ref)) (at : ℕ) (c : Cat Ref) (rest : List Level) (text whole : List ℕ)
+    →
     HasWritten cats at rest text whole → at < length cats → c ≡ get_or cats at c →
     length rest ≡ length c.semis + length (certificates (drop (at + 1) cats))
 enough_levels cats at c rest text whole h within is =
     h.many ∙ ap length (certificates_from cats at c within is)
     ∙ length-append (of_cat c c.semis) (certificates (drop (at + 1) cats))
-    ∙ ap (λ n. n + length (certificates (drop (at + 1) cats))) (length-map c.semis (λ (s : Semi Ref). (c, s)))
+    ∙ ap (λ n. n + length (certificates (drop (at + 1) cats)))
+    (length-map c.semis (λ (s : Semi Ref). (c, s)))
 
 -- the lines of a cat's certificates are written
 pub cat_written : (cats : List (Cat Ref)) (at : ℕ) (c : Cat Ref) (rest now behind : List Level)
-    (text after whole : List ℕ) → HasWritten cats at rest text whole → at < length cats → c ≡ get_or cats at c →
+    (text after whole : List ℕ) → HasWritten cats at rest text whole → at < length cats →
+    c ≡ get_or cats at c →
     now ≡ take (length c.semis) rest → behind ≡ drop (length c.semis) rest →
     after ≡ text ++ certificate_lines (of_cat c c.semis) now → HasWritten cats (at + 1) behind after whole
 cat_written cats at c rest now behind text after whole h within is front back lined =
     let more = enough_levels cats at c rest text whole h within is in
     let own : length (of_cat c c.semis) ≡ length c.semis = length-map c.semis (λ (s : Semi Ref). (c, s)) in
     let split : certificate_lines (certificates (drop at cats)) rest
-    ≡ certificate_lines (of_cat c c.semis) now ++ certificate_lines (certificates (drop (at + 1) cats)) behind =
+    ≡ certificate_lines (of_cat c c.semis) now ++ certificate_lines (certificates (drop (at + 1) cats))
+    behind =
     ap (λ xs. certificate_lines xs rest) (certificates_from cats at c within is)
     ∙ lines_split (of_cat c c.semis) (certificates (drop (at + 1) cats)) rest
     (more ∙ ap (λ n. n + length (certificates (drop (at + 1) cats))) (sym own))

@@ -1,5 +1,7 @@
 -- Orders of which the reports are the same bytes have the same attempts in each round, and are the same.
-use Rattle.std.proofs.Common.{◌≡◌, ◌≢◌, ℕ, zero, suc, ◌+◌, ◌*◌, ◌/◌, ◌%◌, ◌<◌, ◌≤◌, ◌==◌, ◌⊎◌, inl, inr, Bool, true, false, IsTrue, List, [], ◌∷◌, ◌++◌, All, Any, codes, get_or, length, Some, refl, sym, ◌∙◌, ap, subst, append_assoc, arith}
+use Rattle.std.proofs.Common.{◌≡◌, ◌≢◌, ℕ, zero, suc, ◌+◌, ◌*◌, ◌/◌, ◌%◌, ◌<◌, ◌≤◌, ◌==◌, ◌⊎◌, inl, inr}
+use Rattle.std.proofs.Common.{Bool, true, false, IsTrue, List, [], ◌∷◌, ◌++◌, All, Any, codes, get_or}
+use Rattle.std.proofs.Common.{length, Some, refl, sym, ◌∙◌, ap, subst, append_assoc, arith}
 use Rattle.std.specs.Prelude.{slice_get}
 use Rattle.std.specs.Fmt.{decimal}
 use Rattle.std.specs.List.{flat_map, range_with_len}
@@ -16,11 +18,13 @@ use Rattle.seuss_program.specs.declared.state.State.{State}
 use Rattle.seuss_program.specs.declared.order.Placed.{Placed}
 use Rattle.seuss_program.specs.Keeping.{Keeps}
 use Rattle.seuss_program.specs.Orders.{stops, IsLawful, IsStopped, IsWhole}
-use Rattle.seuss_program.specs.Reports.{line, attempt_line, of_round, round_text, rounds_up_to, rounds_shown, last_line, end_text, report}
+use Rattle.seuss_program.specs.Reports.{line, attempt_line, of_round, round_text, rounds_up_to}
+use Rattle.seuss_program.specs.Reports.{rounds_shown, last_line, end_text, report}
 use Rattle.report_text.specs.Names.{HasNames}
 use Rattle.report_text.proofs.RisingLemmas.{IsRisingFrom}
 use Rattle.report_text.proofs.AgreeingLists.{AgreeAt, filter_none, same_lists}
-use Rattle.report_text.proofs.LineLemmas.{Head, Attempt, End, kind_of, kind_head, kind_attempt, kind_end, attempts_same}
+use Rattle.report_text.proofs.LineLemmas.{Head, Attempt, End, kind_of, kind_head, kind_attempt, kind_end}
+use Rattle.report_text.proofs.LineLemmas.{attempts_same}
 use Rattle.report_text.proofs.ActionNames.{same_action}
 
 -- the first attempt that stopped the run is of the last round, so the rounds up to it are shown

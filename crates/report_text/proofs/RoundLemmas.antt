@@ -1,5 +1,6 @@
 -- The rounds of a report, written one after the other.
-use Rattle.std.proofs.Common.{◌≡◌, ℕ, zero, suc, ◌+◌, ◌/◌, ◌==◌, List, [], ◌++◌, AllPairs, ◌≤◌, codes, length, take, drop, sym, ◌∙◌, ap, subst, arith, append_assoc, append-nil}
+use Rattle.std.proofs.Common.{◌≡◌, ℕ, zero, suc, ◌+◌, ◌/◌, ◌==◌, List, [], ◌++◌, AllPairs, ◌≤◌, codes}
+use Rattle.std.proofs.Common.{length, take, drop, sym, ◌∙◌, ap, subst, arith, append_assoc, append-nil}
 use Rattle.std.specs.Fmt.{decimal}
 use Rattle.std.specs.List.{range_with_len, flat_map, prefix_len}
 use Rattle.seuss_program.specs.declared.order.Placed.{Placed}

@@ -20,4 +20,5 @@ pub attempts_all : (p : Program) (actions : List ℕ) (outcomes : List Outcome) 
     text ++ flat_map (attempt_line p) (attempts_of actions outcomes) ≡ whole → text ≡ whole
 attempts_all p actions outcomes text whole none e =
     sym (append-nil text) ∙
-    ap (λ (es : List Placed). text ++ flat_map (attempt_line p) es) (sym (none_left actions outcomes none)) ∙ e
+    ap (λ (es : List Placed). text ++ flat_map (attempt_line p) es) (sym (none_left actions outcomes none))
+    ∙ e

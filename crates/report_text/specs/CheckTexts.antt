@@ -10,5 +10,6 @@ cats_in p = length p.cats - 2
 
 -- the line `accepted cats N boxes N actions N`
 abbrev pub check_text : Program → List ℕ
-check_text p = line (codes "accepted cats " ++ decimal (cats_in p) ++ codes " boxes " ++ decimal (length p.boxes)
+check_text p = line (codes "accepted cats " ++ decimal (cats_in p) ++ codes " boxes "
+    ++ decimal (length p.boxes)
     ++ codes " actions " ++ decimal (length p.actions))

@@ -24,7 +24,8 @@ method_name c name = c.name.text ++ codes "." ++ proc_name (slice_get c.procs (m
 
 -- the line `semi CAT.FIRST CAT.SECOND LEVEL` of a certificate of a cat
 abbrev pub certificate_line : Cat Ref → Semi Ref → Level → List ℕ
-certificate_line c s level = line (codes "semi " ++ method_name c s.first ++ codes " " ++ method_name c s.second
+certificate_line c s level = line
+    (codes "semi " ++ method_name c s.first ++ codes " " ++ method_name c s.second
     ++ codes " " ++ level_text level)
 
 -- the certificates of all cats, each with its cat, in the order of the text

@@ -9,7 +9,8 @@ ghost use Rattle.report_text.specs.Names.{HasNames};
 
 /// The bytes of a report tell its order: lawful orders with equal reports are equal, whatever their states.
 pub fn one_order()
-    ensures { (p : Program) (rounds : ℕ) (order other : List Placed) (state after : State) → Keeps p → HasNames p →
+    ensures { (p : Program) (rounds : ℕ) (order other : List Placed) (state after : State) → Keeps p →
+        HasNames p →
         IsLawful (length p.actions) rounds order → IsLawful (length p.actions) rounds other →
         report p rounds order state ≡ report p rounds other after → order ≡ other }
 {}

@@ -3,7 +3,9 @@ ghost use Rattle.std.specs.List.{flat_map, range_with_len};
 ghost use Rattle.seuss_program.specs.declared.tree.Ref.{Ref};
 ghost use Rattle.seuss_program.specs.declared.tree.Semi.{Semi};
 ghost use Rattle.seuss_program.specs.Programs.{method_of};
-ghost use Rattle.report_text.specs.MatrixTexts.{level_text, method_name, certificate_line, certificate_lines, certificates, pair_line, row_lines, matrix_text as text_of};
+ghost use Rattle.report_text.specs.MatrixTexts.{level_text, method_name, certificate_line};
+ghost use Rattle.report_text.specs.MatrixTexts.{certificate_lines};
+ghost use Rattle.report_text.specs.MatrixTexts.{certificates, pair_line, row_lines, matrix_text as text_of};
 
 use crate::names::push_action;
 use seuss_base::{CompatRows, Level, List, Memory, Text};

@@ -1,7 +1,8 @@
 ghost use Rattle.std.specs.Prelude.{◌≡◌, ◌++◌, length, IfOk, OnOk};
 ghost use Rattle.std.specs.List.{flat_map};
 ghost use Rattle.seuss_program.specs.Reports.{attempt_line};
-ghost use Rattle.report_text.specs.TightReports.{attempts_of, attempted as attempt_of, tight_end, tight_report};
+ghost use Rattle.report_text.specs.TightReports.{attempts_of, attempted as attempt_of, tight_end};
+ghost use Rattle.report_text.specs.TightReports.{tight_report};
 
 use crate::ends::end_text;
 use crate::rounds::push_attempt;

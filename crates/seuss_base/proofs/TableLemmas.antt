@@ -1,5 +1,6 @@
 -- What a write into a table leaves at its places.
-use Rattle.std.proofs.Common.{◌≡◌, ◌≢◌, ℕ, ◌+◌, ◌*◌, ◌/◌, ◌%◌, ◌<◌, ◌⊎◌, List, length, get_or, sym, ap, ◌∙◌, ⊎_elim, refl, arith}
+use Rattle.std.proofs.Common.{◌≡◌, ◌≢◌, ℕ, ◌+◌, ◌*◌, ◌/◌, ◌%◌, ◌<◌, ◌⊎◌, List, length, get_or, sym, ap, ◌∙◌}
+use Rattle.std.proofs.Common.{⊎_elim, refl, arith}
 use Rattle.std.proofs.lemmas.List.{get_or-set_other, get_or-set_same}
 use Rattle.std.proofs.Math.ListN.{set}
 use Rattle.std.proofs.lemmas.Nat.{mul-add-lt, div-mul-add, mod-mul-add}
@@ -16,11 +17,13 @@ rows_differ w a b i j hb hj differ e =
 -- a write at the place of a pair sets the level of that pair alone
 pub set_sets : (count : ℕ) (levels : List Level) (a b : ℕ) (level : Level) → a < count → b < count →
     length levels ≡ count * count →
-    Sets (record { count = count; levels = levels }) (record { count = count; levels = set levels (a * count + b) level }) a b level
+    Sets (record { count = count; levels = levels })
+    (record { count = count; levels = set levels (a * count + b) level }) a b level
 set_sets count levels a b level ha hb full =
     let place : a * count + b < length levels = omega (arith, full, mul-add-lt a count b count ha hb) in
     record {
       count = refl;
       here = get_or-set_same levels (a * count + b) level Never place;
-      others = λ i j hi hj differ. get_or-set_other levels (a * count + b) (i * count + j) level Never (rows_differ count a b i j hb hj differ);
+      others = λ i j hi hj differ. get_or-set_other levels (a * count + b) (i * count + j) level Never
+          (rows_differ count a b i j hb hj differ);
     }

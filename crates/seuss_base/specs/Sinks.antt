@@ -1,5 +1,6 @@
 -- What a write does to the bytes that were written.
-use Rattle.std.specs.Prelude.{◌≡◌, List, ℕ, ◌-◌, ◌++◌, length, Option, Some, IfSome, Result, IsErr, IfOk, ◌↔◌, ◌⊎◌, Contains, min}
+use Rattle.std.specs.Prelude.{◌≡◌, List, ℕ, ◌-◌, ◌++◌, length, Option, Some, IfSome, Result, IsErr, IfOk}
+use Rattle.std.specs.Prelude.{◌↔◌, ◌⊎◌, Contains, min}
 use Rattle.seuss_base.specs.Faults.{next_count}
 use Rattle.seuss_base.specs.declared.source.Failed.{Failed}
 

@@ -1,5 +1,6 @@
 -- What a read does to the bytes that are left.
-use Rattle.std.specs.Prelude.{◌≡◌, ℕ, ◌≤◌, List, length, take, drop, Option, Some, Result, IsErr, IfOk, ◌↔◌, Contains, min}
+use Rattle.std.specs.Prelude.{◌≡◌, ℕ, ◌≤◌, List, length, take, drop, Option, Some, Result, IsErr, IfOk, ◌↔◌}
+use Rattle.std.specs.Prelude.{Contains, min}
 use Rattle.seuss_base.specs.Faults.{next_count}
 use Rattle.seuss_base.specs.declared.source.Failed.{Failed}
 

@@ -16,4 +16,5 @@ level_at table a b = slice_index_or table.levels (a * table.count + b) Never
 pub record Sets (old new : Table) (a b : ℕ) (level : Level) : Type 0 where
   pub count : new.count ≡ old.count
   pub here : level_at new a b ≡ level
-  pub others : (i j : ℕ) → i < old.count → j < old.count → (i ≢ a) ⊎ (j ≢ b) → level_at new i j ≡ level_at old i j
+  pub others : (i j : ℕ) → i < old.count → j < old.count → (i ≢ a) ⊎ (j ≢ b) →
+      level_at new i j ≡ level_at old i j

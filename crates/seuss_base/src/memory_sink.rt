@@ -26,9 +26,18 @@ impl Model for MemorySink {
 
     ghost Value = { Store };
 
-    ghost view = { λ s. record { written = s.bytes.items; capacity = s.capacity; piece = s.piece; failing = s.failing; calls = s.calls; faults = s.faults } };
+    ghost view = { λ s. record {
+      written = s.bytes.items;
+      capacity = s.capacity;
+      piece = s.piece;
+      failing = s.failing;
+      calls =
+          s.calls;
+      faults = s.faults;
+    } };
 
-    ghost invariant = { λ s. (vec_len s.bytes ≤ s.capacity) × (s.capacity ≤ vec_capacity s.bytes) × (1 ≤ s.piece) };
+    ghost invariant = { λ s. (vec_len s.bytes ≤ s.capacity) × (s.capacity ≤ vec_capacity s.bytes)
+        × (1 ≤ s.piece) };
 }
 
 impl MemorySink {
@@ -80,7 +89,8 @@ impl Sink for MemorySink {
         ensures exact { Stores self.old self.new (length from.now) result }
         ensures some { IfOk result (λ n. 0 < n) }
         ensures within { IfOk result (λ n. n ≤ length from.now) }
-        ensures added { IfOk result (λ n. Some self.new.written ≡ Some (self.old.written ++ take n from.now)) }
+        ensures added { IfOk result
+            (λ n. Some self.new.written ≡ Some (self.old.written ++ take n from.now)) }
         ensures failed { OnErr result (Rose self.old.faults self.new.faults) }
         ensures kept { OnErr result (self.new.written ≡ self.old.written) }
         ensures counted { self.old.faults ≤ self.new.faults }

@@ -26,7 +26,14 @@ impl Model for MemorySource {
 
     ghost Value = { Stock };
 
-    ghost view = { λ s. record { left = drop s.taken s.bytes; piece = s.piece; failing = s.failing; calls = s.calls; faults = s.faults } };
+    ghost view = { λ s. record {
+      left = drop s.taken s.bytes;
+      piece = s.piece;
+      failing = s.failing;
+      calls = s.calls;
+      faults =
+          s.faults;
+    } };
 
     ghost invariant = { λ s. (s.taken ≤ length s.bytes) × (1 ≤ s.piece) };
 }

@@ -18,7 +18,8 @@ pub trait Source {
     fn read(&mut self, into: &mut [u8]) -> Result<usize, Failed>
         requires { 0 < length into.old }
         ensures within { IfOk result (λ n. n ≤ length into.old) }
-        ensures moved { IfOk result (λ n. IfSome (left self.old) (λ bytes. Moves bytes n into.new (left self.new))) }
+        ensures moved { IfOk result
+            (λ n. IfSome (left self.old) (λ bytes. Moves bytes n into.new (left self.new))) }
         ensures end { IfOk result (λ n. n ≡ 0 → IfSome (left self.old) (λ bytes. bytes ≡ [])) }
 
         // A fault is answered only where the count rose, and loses no byte.

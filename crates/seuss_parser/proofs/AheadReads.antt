@@ -99,7 +99,8 @@ module _ {A : Type 0} (P Q : Phrase A) (may : Sorts) (room : ℕ) (words : List 
     alike = alike-self rest;
   }
 
-  pub same-pieces : (read : Read A) → Tells P Q may room words read → (one other : InWords Q may room words) →
+  pub same-pieces : (read : Read A) → Tells P Q may room words read →
+      (one other : InWords Q may room words) →
       AreKept one.pieces → other.pieces ≡ one.pieces
   unfolding as-other
   same-pieces (Got value left rest) found one other kept =
@@ -257,7 +258,8 @@ call-front (word ∷ words) test = by_name (is_name word.sort) refl test
 named-word : (word : Word) → is_name word.sort ≡ true → (name : Name) × (as_name word ≡ Some name)
 named-word word is = by_sort word.line word.sort is
   where
-    by_sort : (line : ℕ) (sort : Sort) → is_name sort ≡ true → (name : Name) × (name_of line sort ≡ Some name)
+    by_sort : (line : ℕ) (sort : Sort) → is_name sort ≡ true →
+        (name : Name) × (name_of line sort ≡ Some name)
     by_sort line (Fixed found) is = absurd (cc)
     by_sort line (Named text) is = (record { text = text; line = line }, refl)
     by_sort line (Number value) is = absurd (cc)
@@ -285,7 +287,8 @@ dotless (suc any) value room pieces left after phrase follows =
         let words = words_in pieces ++ after in
         let name = named-word front.name front.is_named in
         let dot_follows : has behind_expression front.dot.sort ≡ true =
-        part-has (the_symbol S.Dot) behind_expression (record { shown = refl }) front.dot.sort front.is_dot in
+        part-has (the_symbol S.Dot) behind_expression (record { shown = refl }) front.dot.sort front.is_dot
+        in
         let alone : InWords (IsWholeExpression (suc any)) behind_expression room words = record {
           value = expression name.0.line (N.Name name.0);
           pieces = one_piece front.name;
@@ -375,7 +378,8 @@ call-takes : (room : ℕ) (word : Word) (words : List Word) → is_name word.sor
 unfolding read_call
 call-takes room word words named =
     let name = named-word word named in
-    subst (λ o. length (behind_of (read_then (got_word false room word words o) read_call_of)) ≤ length words)
+    subst (λ o. length (behind_of (read_then (got_word false room word words o) read_call_of)) ≤ length
+    words)
     (sym name.1)
     (read-shorter (IsCallOf own_brackets name.0) (IsCallOf 0 name.0) everything room words
     (read_call_of name.0 room words) ((reads-call_of 0 (suc room) name.0).tells room words (omega arith)))
@@ -458,7 +462,8 @@ IsAssigned brackets name value room pieces left =
     Then (IsWholeExpression brackets) (λ e. Only (T.Assign name e)) value room pieces left
 
 module _ (any depth : ℕ) (name : Name) where
-  reads-bound_call : Reads (IsBoundCall own_brackets name) (IsBoundCall any name) (read_bound_call name) depth
+  reads-bound_call : Reads (IsBoundCall own_brackets name) (IsBoundCall any name) (read_bound_call name)
+      depth
       everything
   unfolding IsBoundCall read_bound_call
   reads-bound_call = last (λ call. T.Call (Some name) call) (reads-call any depth)
@@ -631,6 +636,7 @@ module _ (any depth : ℕ) (name : Name) where
           behind_statement
           room words (λ value ps left phrase. inr phrase) (read_assigned name room words)
           (value-narrows room words (behind_of (read_assigned name room words))
-          (λ word others are named. subst (λ (ws : List Word). length (behind_of (read_assigned name room ws))
+          (λ word others are named. subst
+          (λ (ws : List Word). length (behind_of (read_assigned name room ws))
           ≤ length others) (sym are) (assigned-takes room word others named)) test)
           (reads-assigned.tells room words fits)

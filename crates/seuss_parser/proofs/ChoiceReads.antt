@@ -87,7 +87,8 @@ module _ {A : Type 0} (P Q P-other Q-other : Phrase A) (may behind : Sorts) (roo
       live = begins-as P P-other room (first.pieces ++ record { word = first.word; passes = true } ∷ []) to
           first.live;
       passes = λ o.
-          let past = first.passes (narrowed (words_in first.pieces) rest first.words_are narrow o) in record {
+          let past = first.passes (narrowed (words_in first.pieces) rest first.words_are narrow o) in
+          record {
             front = past.front;
             back = past.back;
             pieces_are = past.pieces_are;

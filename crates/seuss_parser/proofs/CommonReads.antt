@@ -106,7 +106,8 @@ module _ {A : Type 0} (P Q : Phrase A) (one : Reading A) (depth : ℕ) (may firs
     pub reads-perhaps_separated : Reads (IsPerhapsSeparated P) (IsPerhapsSeparated Q)
         (read_perhaps_separated closing one) depth (the_symbol closing)
     unfolding IsPerhapsSeparated read_perhaps_separated
-    reads-perhaps_separated = last listed (reads-optional (IsSeparated P) (IsSeparated Q) (read_separated one)
+    reads-perhaps_separated = last listed
+        (reads-optional (IsSeparated P) (IsSeparated Q) (read_separated one)
         (begins_without closing) depth (the_symbol closing) (the_symbol closing) first
         (others (the_symbol closing)) (tests-without closing)
         (reads-separated (the_symbol closing) comma part fails) firsts-separated opens closes

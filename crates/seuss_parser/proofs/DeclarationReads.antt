@@ -81,7 +81,8 @@ module _ (depth : ℕ) where
         the_names reads-param firsts-param (part-everything (the_symbol S.Comma))
         (part-everything (the_symbol S.Close)) (record { shown = refl })
 
-    reads-result : Reads (IsResult own_brackets own_blocks) (IsResult any blocks) read_result depth everything
+    reads-result : Reads (IsResult own_brackets own_blocks) (IsResult any blocks) read_result depth
+        everything
     unfolding IsResult read_result
     reads-result = after (reads-symbol S.Colon depth sample-Colon)
         (λ colon. reads-symbol S.Int depth sample-Int)
@@ -142,7 +143,8 @@ module _ (depth : ℕ) where
   reads-int_of : (name : Name) → Reads (IsIntOf name) (IsIntOf name) (read_int_of name) depth behind_variable
   unfolding IsIntOf read_int_of
   reads-int_of name = after (reads-symbol S.Int depth sample-Int) (λ line.
-      last (λ start. int_variable name start) (reads-perhaps_start IsSigned read_signed (reads-signed depth)))
+      last (λ start. int_variable name start)
+      (reads-perhaps_start IsSigned read_signed (reads-signed depth)))
 
   reads-bool_of : (name : Name) → Reads (IsBoolOf name) (IsBoolOf name) (read_bool_of name) depth
       behind_variable
@@ -250,8 +252,10 @@ module _ (depth : ℕ) where
         reads-then (reads-body any blocks depth (the_symbol S.End) (record { shown = refl })) (λ body.
         last (λ end. record { name = name; params = params; gives = is_some gives; form = F.Total body })
         (reads-symbol S.End depth sample-End))
-        (λ body. leads-firsts everything (firsts-then (firsts-symbol S.End)) (part-self (the_symbol S.End)))))
-        (λ gives. leads-firsts everything (firsts-then (firsts-symbol S.Is)) (part-self (the_symbol S.Is))))))
+        (λ body. leads-firsts everything (firsts-then (firsts-symbol S.End))
+        (part-self (the_symbol S.End)))))
+        (λ gives. leads-firsts everything (firsts-then (firsts-symbol S.Is))
+        (part-self (the_symbol S.Is))))))
 
     reads-partial : Reads (IsPartial own_brackets own_blocks) (IsPartial any blocks) read_partial depth
         everything
@@ -273,7 +277,8 @@ module _ (depth : ℕ) where
         (λ gives. leads-firsts everything (firsts-then (firsts-alternatives any blocks depth))
         (part-self (the_symbol S.When))))))
 
-    reads-action : Reads (IsAction own_brackets own_blocks) (IsAction any blocks) read_action depth everything
+    reads-action : Reads (IsAction own_brackets own_blocks) (IsAction any blocks) read_action depth
+        everything
     unfolding IsAction read_action
     reads-action = after (reads-symbol S.Action depth sample-Action) (λ line. after a-name (λ name.
         reads-then (reads-alternatives any blocks depth) (λ alternatives.
@@ -354,7 +359,8 @@ module _ (depth : ℕ) where
         firsts-variable (part-self (the_symbol S.Var)) (record { shown = refl }) (record { shown = refl })
         (record { shown = refl })
 
-    given-part : Reads (IsPerhapsGroup IsGiven) (IsPerhapsGroup IsGiven) (read_perhaps_group read_given) depth
+    given-part : Reads (IsPerhapsGroup IsGiven) (IsPerhapsGroup IsGiven) (read_perhaps_group read_given)
+        depth
         behind_variable
     given-part = reads-perhaps_group IsGiven IsGiven read_given depth everything the_names reads-given
         firsts-given
@@ -370,7 +376,8 @@ module _ (depth : ℕ) where
         reads-then semis-part (λ semis.
         last (λ end. record { name = name; given = given; vars = vars; procs = procs; semis = semis })
         (reads-symbol S.End depth sample-End))
-        (λ semis. leads-firsts everything (firsts-then (firsts-symbol S.End)) (part-self (the_symbol S.End))))
+        (λ semis. leads-firsts everything (firsts-then (firsts-symbol S.End))
+        (part-self (the_symbol S.End))))
         (λ procs. leads-then (leads-many firsts-semi (record { shown = refl }) (record { shown = refl }))
         (λ semis. leads-firsts everything (firsts-then (firsts-symbol S.End))
         (part-self (the_symbol S.End)))))

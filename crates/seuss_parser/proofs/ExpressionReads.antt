@@ -109,7 +109,8 @@ reads-mark_of table depth sample = reads-mark (as_one_of table) sample depth
 
 -- a mark that is within the limit takes room
 pub mark-falls : {A : Type 0} (reads : Word → Option A) (inner : ℕ) (value : A) (room : ℕ) (ps : List Piece)
-    (left : ℕ) → OneMark reads value room ps left → AreKept ps → left ≤ room → room < suc inner → left < inner
+    (left : ℕ) → OneMark reads value room ps left → AreKept ps → left ≤ room → room < suc inner →
+    left < inner
 mark-falls reads inner value zero ps left mark kept low fits =
     let is : true ≡ false = All-head (λ (p : Piece). p.passes ≡ false) _ []
     (subst AreKept mark.spelled kept) in
@@ -179,7 +180,8 @@ module _ (ops : Symbol → Option Op) (sample : WordSample (as_one_of ops)) wher
         Reads (IsChain ops P) (IsChain ops Q) (read_chain ops one) depth behind
     unfolding IsChain read_chain
     reads-chain operators part fails = reads-then item (λ x. last (λ xs. grouped x xs)
-        (reads-many (IsBehind ops P) (IsBehind ops Q) (read_behind ops one) (begins_with_one_of ops) depth may
+        (reads-many (IsBehind ops P) (IsBehind ops Q) (read_behind ops one) (begins_with_one_of ops) depth
+        may
         behind (the_table ops) (the_table ops) (tests-table ops) reads-behind (firsts-behind P)
         (firsts-behind Q)
         (part-self (the_table ops)) fails part operators))
@@ -314,7 +316,8 @@ module _ (P Q : Phrase (Expr Name)) (one : Reading (Expr Name)) (depth : ℕ)
       (read_pair_function one) (suc depth) everything everything everything (the_table function)
       (the_table pair_function) reads-function reads-pair_function (firsts-function Q)
       (leads-firsts everything (firsts-pair_function Q) (part-self (the_table pair_function)))
-      (part-self everything) (part-self everything) (part-self (the_table function)) (record { shown = refl })
+      (part-self everything) (part-self everything) (part-self (the_table function))
+      (record { shown = refl })
 
   abbrev read_pairs : Reading (Expr Name)
   read_pairs = either (begins_with_one_of function) (read_function one) (read_pair_function one)

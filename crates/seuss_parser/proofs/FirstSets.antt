@@ -66,7 +66,8 @@ the_table table = record { symbols = λ s. is_some (table s); names = false; num
 pub table-in : {A : Type 0} (table : Symbol → Option A) → ReadsIn (as_one_of table) (the_table table)
 table-in {A} table = record { at = λ word value read. by_sort word.line word.sort value read }
   where
-    by_found : (line : ℕ) (o : Option A) (value : Marked A) → marked_as line o ≡ Some value → is_some o ≡ true
+    by_found : (line : ℕ) (o : Option A) (value : Marked A) → marked_as line o ≡ Some value →
+        is_some o ≡ true
     by_found line None value read = absurd (cc)
     by_found line (Some a) value read = refl
 
@@ -76,7 +77,8 @@ table-in {A} table = record { at = λ word value read. by_sort word.line word.so
     by_sort line (Named text) value read = absurd (cc)
     by_sort line (Number n) value read = absurd (cc)
 
-pub firsts-word : {A : Type 0} {reads : Word → Option A} {set : Sorts} → ReadsIn reads set → (passes : Bool) →
+pub firsts-word : {A : Type 0} {reads : Word → Option A} {set : Sorts} → ReadsIn reads set →
+    (passes : Bool) →
     Firsts (OneWord reads passes) set
 firsts-word {A} {reads} {set} is_in passes = record {
   at = λ value room pieces left one. record {

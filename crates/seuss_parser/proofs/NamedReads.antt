@@ -46,13 +46,15 @@ module _ (brackets : ℕ) {A : Type 0} (make : Option Name → Call Name → A) 
       Then (IsCall brackets) (λ call. Only (make (Some name) call)) value room pieces left
 
   abbrev pub Assigning : Name → Phrase A
-  Assigning name value room pieces left = Then (IsSymbol S.Assign) (λ line. Bound name) value room pieces left
+  Assigning name value room pieces left = Then (IsSymbol S.Assign) (λ line. Bound name) value room pieces
+      left
 
   abbrev pub Named : Phrase A
   Named value room pieces left = Then IsName (λ name. Either (Plain name) (Assigning name)) value room
       pieces left
 
-  pub named-call : (value : A) (room : ℕ) (pieces : List Piece) (left : ℕ) → CallWith value room pieces left →
+  pub named-call : (value : A) (room : ℕ) (pieces : List Piece) (left : ℕ) →
+      CallWith value room pieces left →
       Named value room pieces left
   unfolding IsCall IsCallOf IsBinding
   named-call value room pieces left both =
@@ -318,7 +320,8 @@ module _ (any depth : ℕ) where
       (read_plain_call name) (read_binding name) depth everything behind_statement behind_statement
       (the_symbol S.Dot) (the_symbol S.Assign) (plain-call name) (binding name)
       (firsts-plain any T.Call name)
-      (leads-firsts behind_statement (firsts-then (firsts-symbol S.Assign)) (part-self (the_symbol S.Assign)))
+      (leads-firsts behind_statement (firsts-then (firsts-symbol S.Assign))
+      (part-self (the_symbol S.Assign)))
       (part-everything behind_statement) (part-self behind_statement) (part-self (the_symbol S.Dot))
       (record { shown = refl }))
 

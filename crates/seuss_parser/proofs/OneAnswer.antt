@@ -310,7 +310,8 @@ program-no_syntax words tree line all program is =
     ended is.front is.rest line is.ends (sym rest) tree
     (subst (λ (ws : List Word). AreProgram ws tree) front program)
 
-program-no_nesting : (words : List Word) (tree : Tree) (line : ℕ) → All IsWord words → AreProgram words tree →
+program-no_nesting : (words : List Word) (tree : Tree) (line : ℕ) → All IsWord words →
+    AreProgram words tree →
     IsNesting words line → ⊥
 unfolding program-extent nesting-extent
 program-no_nesting words tree line all program is =

@@ -172,7 +172,8 @@ more-parses words tree left word rest got = record {
   ends = syntax-at_word front word rest (record { none = none });
 }
   where
-    base : IsFound (IsProgram own_brackets own_blocks) (IsProgram 0 0) nothing 0 words tree left (word ∷ rest)
+    base : IsFound (IsProgram own_brackets own_blocks) (IsProgram 0 0) nothing 0 words tree left
+        (word ∷ rest)
     base = told 0 0 words (Got tree left (word ∷ rest)) got
 
     front : List Word

@@ -53,7 +53,8 @@ module _ {A : Type 0} (P Q : Phrase A) (one : Reading A) (starts : List Word →
       (λ v r ps l. Then Q (λ x. Only (Some x)) v r ps l)
       (Optional P) (Optional Q) behind behind room words to (read_as Some (one room words))
       (record {
-        at = λ taken are o. from taken (behind_of (read_as Some (one room words))) are o.value o.pieces o.left
+        at = λ taken are o. from taken (behind_of (read_as Some (one room words))) are o.value o.pieces
+            o.left
             o.after o.behind o.spelled o.fits o.words_are o.alike;
       })
       (then-tells P Q (λ x. Only (Some x)) (λ x. Only (Some x)) may behind (λ x. leads-only part) room words

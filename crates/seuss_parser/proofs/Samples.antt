@@ -433,7 +433,8 @@ pub sample-OpenSquare : WordSample (as_symbol S.OpenSquare)
 sample-OpenSquare = record { word = fixed S.OpenSquare; value = 1; is_word = word-OpenSquare; read = refl }
 
 pub sample-CloseSquare : WordSample (as_symbol S.CloseSquare)
-sample-CloseSquare = record { word = fixed S.CloseSquare; value = 1; is_word = word-CloseSquare; read = refl }
+sample-CloseSquare = record
+    { word = fixed S.CloseSquare; value = 1; is_word = word-CloseSquare; read = refl }
 
 pub sample-Equal : WordSample (as_symbol S.Equal)
 sample-Equal = record { word = fixed S.Equal; value = 1; is_word = word-Equal; read = refl }

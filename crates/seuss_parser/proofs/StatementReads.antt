@@ -178,7 +178,8 @@ module _ (any depth inner : ℕ) (passes : Bool) (P Q : Phrase (List (Statement 
       (λ fails. leads-firsts everything (firsts-then (firsts-symbol S.End)) (part-self (the_symbol S.End))))
       (λ holds. leads-then (leads-optional (firsts-else any passes Q) (record { shown = refl })
       (record { shown = refl }))
-      (λ fails. leads-firsts everything (firsts-then (firsts-symbol S.End)) (part-self (the_symbol S.End))))))
+      (λ fails. leads-firsts everything (firsts-then (firsts-symbol S.End))
+      (part-self (the_symbol S.End))))))
       (λ test. leads-firsts everything (firsts-then (firsts-symbol S.Then)) (record { shown = refl })))
       (λ line. leads-anything) goes-in
 
@@ -242,7 +243,8 @@ firsts-statement any (suc blocks) nesting =
 
 -- a block of statements
 reads-block : (any depth own blocks nesting : ℕ) (one : Reading (Statement Name)) →
-    Reads (IsStatement own_brackets own nesting) (IsStatement any blocks nesting) one depth behind_statement →
+    Reads (IsStatement own_brackets own nesting) (IsStatement any blocks nesting) one depth behind_statement
+    →
     Reads (Many (IsStatement own_brackets own nesting)) (Many (IsStatement any blocks nesting))
     (many begins_statement one) depth behind_block
 reads-block any depth own blocks nesting one item = reads-many (IsStatement own_brackets own nesting)
@@ -264,7 +266,8 @@ statement-around any depth own blocks zero fits below =
     (reads-block any 0 (suc own) blocks 0 (read_statement own 0) (below 0 (λ none. absurd (omega arith))))
     (λ is. absurd (cc))
 statement-around any depth own blocks (suc nesting) fits below =
-    reads-any_statement any depth depth (suc nesting == 0) (Many (IsStatement own_brackets (suc own) nesting))
+    reads-any_statement any depth depth (suc nesting == 0)
+    (Many (IsStatement own_brackets (suc own) nesting))
     (Many (IsStatement any blocks nesting)) (many begins_statement (read_statement own nesting))
     (reads-block any depth (suc own) blocks nesting (read_statement own nesting)
     (below depth (λ some. let deep : suc nesting < suc own = fits some in omega arith)))
@@ -342,7 +345,8 @@ module _ (any blocks depth : ℕ) where
   unfolding AreAlternatives read_alternatives
   reads-alternatives = reads-then reads-alternative (λ first. last (λ others. with_first first others)
       (reads-many (IsAlternative own_brackets own_blocks) (IsAlternative any blocks) read_alternative
-      (begins_with S.When) depth behind_alternative (the_symbol S.End) (the_symbol S.When) (the_symbol S.When)
+      (begins_with S.When) depth behind_alternative (the_symbol S.End) (the_symbol S.When)
+      (the_symbol S.When)
       (tests-symbol S.When) reads-alternative (firsts-alternative own_brackets own_blocks)
       (firsts-alternative any blocks) (part-self (the_symbol S.When)) (record { shown = refl })
       (record { shown = refl }) (record { shown = refl })))

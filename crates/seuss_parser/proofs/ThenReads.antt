@@ -194,7 +194,8 @@ module _ {A B : Type 0} (P Q : Phrase A) (P-next Q-next : A → Phrase B) (may b
     words_are = whole-words found.pieces next.pieces rest last found.words_are next.words_are;
     live = begins-back x found.pieces between next.pieces found.spelled next.live;
     dead = λ o. next.dead (back-other x between rest found (words_in next.pieces) last
-        (words_in (found.pieces ++ next.pieces)) next.words_are (words_in-append found.pieces next.pieces) o);
+        (words_in (found.pieces ++ next.pieces)) next.words_are (words_in-append found.pieces next.pieces)
+        o);
   }
   second-tells x between rest found (Refused TooDeep last) next = record {
     pieces = found.pieces ++ next.pieces;
@@ -235,7 +236,8 @@ module _ {A B : Type 0} (P Q : Phrase A) (P-next Q-next : A → Phrase B) (may b
   pub then-tells : (samples : (x : A) → Sample (P-next x)) (next : A → Reading B) →
       ((x : A) (between : ℕ) (rest : List Word) → IsFound P Q may room words x between rest →
       Tells (P-next x) (Q-next x) behind between rest (next x between rest)) →
-      (read : Read A) → Tells P Q may room words read → Tells Both Any behind room words (read_then read next)
+      (read : Read A) → Tells P Q may room words read →
+      Tells Both Any behind room words (read_then read next)
   unfolding early-other
   then-tells samples next second (Got x between rest) found =
       second-tells x between rest found (next x between rest) (second x between rest found)

@@ -13,7 +13,8 @@ minus-last (first ∷ lines) line e = ap (λ inner. expression first (N.Neg inne
 negated-last : (lines : List ℕ) (line : ℕ) (e : Expr Name) →
     negated (lines ++ line ∷ []) e ≡ negated lines (expression line (N.Not e))
 negated-last [] line e = refl
-negated-last (first ∷ lines) line e = ap (λ inner. expression first (N.Not inner)) (negated-last lines line e)
+negated-last (first ∷ lines) line e = ap (λ inner. expression first (N.Not inner))
+    (negated-last lines line e)
 
 -- one more sign is put before an expression
 pub minus-step : (lines left : List ℕ) (line : ℕ) (e part whole : Expr Name) → minus lines e ≡ whole →

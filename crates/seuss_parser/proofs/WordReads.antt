@@ -235,7 +235,8 @@ module _ {A : Type 0} (reads : Word → Option A) (sample : WordSample reads) (d
           everything (to room) (from room) (sample-mark.at room)
       by_words zero (word ∷ rest) = word-tells reads (OneMark reads) 0 true 0 (omega arith)
           everything (to 0) (from 0) word rest (sample-mark.at 0)
-      by_words (suc room) (word ∷ rest) = word-tells reads (OneMark reads) (suc room) false room (omega arith)
+      by_words (suc room) (word ∷ rest) = word-tells reads (OneMark reads) (suc room) false room
+          (omega arith)
           everything (to_more room) (from_more room) word rest (sample-mark.at (suc room))
 
 pub reads-ends : {A : Type 0} (this : A) (depth : ℕ) →

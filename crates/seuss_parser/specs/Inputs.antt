@@ -1,5 +1,6 @@
 -- What an input is: words with white space between them, each of which is a number.
-use Rattle.std.specs.Prelude.{◌≡◌, ℕ, ◌+◌, ◌^◌, ◌<◌, ◌≤◌, ◌==◌, ◌⊎◌, ℤ, pos, neg_ℤ, IsTrue, not, List, [], ◌∷◌, ◌++◌, length, filter, All, Any, Result, Ok, Err}
+use Rattle.std.specs.Prelude.{◌≡◌, ℕ, ◌+◌, ◌^◌, ◌<◌, ◌≤◌, ◌==◌, ◌⊎◌, ℤ, pos, neg_ℤ, IsTrue, not, List, []}
+use Rattle.std.specs.Prelude.{◌∷◌, ◌++◌, length, filter, All, Any, Result, Ok, Err}
 use Rattle.std.specs.List.{slice_split}
 use Rattle.seuss_text.specs.Bytes.{line_feed, is_white}
 use Rattle.seuss_text.specs.Limits.{decimal_value, max_text, IsTooLong}

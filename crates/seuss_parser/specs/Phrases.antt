@@ -51,10 +51,11 @@ pub record Then {A B : Type 0} (P : Phrase A) (Q : A → Phrase B) (value : B) (
   pub goes_on : Q first value between back left
 
 -- no words, and this value
-pub record Only {A : Type 0} (this : A) (value : A) (room : ℕ) (pieces : List Piece) (left : ℕ) : Type 0 where
-  pub is_this : value ≡ this
-  pub spelled : pieces ≡ []
-  pub room_stays : left ≡ room
+pub record Only {A : Type 0} (this : A) (value : A) (room : ℕ) (pieces : List Piece) (left : ℕ) : Type 0
+  where
+    pub is_this : value ≡ this
+    pub spelled : pieces ≡ []
+    pub room_stays : left ≡ room
 
 -- nothing spells a value
 abbrev pub Nothing : {A : Type 0} → Phrase A

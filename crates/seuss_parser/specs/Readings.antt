@@ -14,7 +14,8 @@ pub data Fault : Type 0 where
   Unexpected : Fault
   TooDeep : Fault
 
--- a value, the room that is left and the words behind it; or a refusal, and the words from the refused one on
+-- a value, the room that is left and the words behind it; or a refusal, and the words from the refused one
+-- on
 pub data Read (A : Type 0) : Type 0 where
   Got : A → ℕ → List Word → Read A
   Refused : Fault → List Word → Read A

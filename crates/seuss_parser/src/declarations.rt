@@ -137,7 +137,8 @@ fn start<T: Phrase>(alloc: Global, words: &mut Words) -> Result<T, Stop>
 
 /// A start value, or none.
 fn perhaps_start<T: Phrase>(alloc: Global, words: &mut Words) -> Result<Option<T>, Stop>
-    ensures gives { Reads result words.old words.new (optional (begins_with S.Equal) (read_start T.reading)) }
+    ensures gives { Reads result words.old words.new
+        (optional (begins_with S.Equal) (read_start T.reading)) }
     ensures keeps { Keeps result words.old words.new }
 {
     if words.is_at(Symbol::Equal) {

@@ -144,7 +144,8 @@ fn perhaps_else(
     words: &mut Words,
 ) -> Result<List<Statement<Name>>, Stop>
     requires within { 0 < nesting }
-    ensures gives { Reads result words.old words.new (read_perhaps_else (nesting == 0) (read_block nesting)) }
+    ensures gives { Reads result words.old words.new
+        (read_perhaps_else (nesting == 0) (read_block nesting)) }
     ensures keeps { Keeps result words.old words.new }
 {
     if words.is_at(Symbol::Else) {

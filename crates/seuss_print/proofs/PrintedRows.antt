@@ -1,5 +1,6 @@
 -- The tokens of a printed text are those that were printed.
-use Rattle.std.proofs.Common.{◌≡◌, ℕ, ◌+◌, ◌-◌, List, [], ◌∷◌, ◌++◌, length, take, drop, ap, subst, sym, refl, ◌∙◌, arith, append_assoc, append-nil, inl}
+use Rattle.std.proofs.Common.{◌≡◌, ℕ, ◌+◌, ◌-◌, List, [], ◌∷◌, ◌++◌, length, take, drop, ap, subst, sym}
+use Rattle.std.proofs.Common.{refl, ◌∙◌, arith, append_assoc, append-nil, inl}
 use Rattle.std.specs.List.{AllByRecursion, slice_range}
 use Rattle.std.specs.Prelude.{IsTrue}
 use Rattle.seuss_text.specs.Bytes.{is_white}
@@ -36,10 +37,13 @@ plus-minus : (m n : ℕ) → m + n - m ≡ n
 plus-minus m n = omega arith
 
 -- a slice behind other bytes
-slice-behind : (front word back : List ℕ) → slice_range (front ++ (word ++ back)) (length front) (length front + length word) ≡ word
+slice-behind : (front word back : List ℕ) → slice_range (front ++ (word ++ back)) (length front)
+    (length front + length word) ≡ word
 slice-behind front word back =
-    ap (λ n. take n (drop (length front) (front ++ (word ++ back)))) (plus-minus (length front) (length word))
-    ∙ (ap (λ (bytes : List ℕ). take (length word) bytes) (drop-front front (word ++ back)) ∙ take-front word back)
+    ap (λ n. take n (drop (length front) (front ++ (word ++ back))))
+    (plus-minus (length front) (length word))
+    ∙ (ap (λ (bytes : List ℕ). take (length word) bytes) (drop-front front (word ++ back))
+    ∙ take-front word back)
 
 -- the tokens of the items that are left, behind these bytes and a gap
 record Rows (items : List Item) (before gap text : List ℕ) : Type 0 where
@@ -51,7 +55,8 @@ record Rows (items : List Item) (before gap text : List ℕ) : Type 0 where
   sorts : sorts_of (words_of text tokens) ≡ tokens_in items
   limits : AllByRecursion (λ token. IsTokenInLimit text token) tokens
 
-rows : (items : List Item) (before gap text : List ℕ) → AreWhite gap → Apart items [] → AllByRecursion IsWithinLimit (tokens_in items) →
+rows : (items : List Item) (before gap text : List ℕ) → AreWhite gap → Apart items [] →
+    AllByRecursion IsWithinLimit (tokens_in items) →
     text ≡ before ++ (gap ++ text_of items) → Rows items before gap text
 rows [] before gap text white_ apart good whole = record {
   tokens = [];
@@ -72,9 +77,11 @@ rows (Token sort ∷ items) before gap text white_ apart good whole =
       line = line_after (before ++ gap);
     } in
     let next = rows items (before ++ (gap ++ word)) [] text tt apart.2 good.1
-    (whole ∙ (ap (λ (bytes : List ℕ). before ++ bytes) (sym (append_assoc gap word (text_of items))) ∙ sym (append_assoc before (gap ++ word) (text_of items)))) in
+    (whole ∙ (ap (λ (bytes : List ℕ). before ++ bytes) (sym (append_assoc gap word (text_of items)))
+    ∙ sym (append_assoc before (gap ++ word) (text_of items)))) in
     let here : R.token_text text token ≡ word =
-    ap (λ (bytes : List ℕ). slice_range bytes token.start token.stop) (whole ∙ sym (append_assoc before gap (word ++ text_of items)))
+    ap (λ (bytes : List ℕ). slice_range bytes token.start token.stop)
+    (whole ∙ sym (append_assoc before gap (word ++ text_of items)))
     ∙ slice-behind (before ++ gap) word (text_of items) in
     record {
       tokens = token ∷ next.tokens;
@@ -96,29 +103,35 @@ rows (Token sort ∷ items) before gap text white_ apart good whole =
         next.row,
       );
       is_gap = next.is_gap;
-      sorts = ap (λ s. s ∷ sorts_of (words_of text next.tokens)) (ap (λ (bytes : List ℕ). sort_of t.kind bytes) here ∙ t.sort_is) ∙ ap (λ ss. sort ∷ ss) next.sorts;
+      sorts = ap (λ s. s ∷ sorts_of (words_of text next.tokens))
+          (ap (λ (bytes : List ℕ). sort_of t.kind bytes) here ∙ t.sort_is)
+          ∙ ap (λ ss. sort ∷ ss) next.sorts;
       limits = (subst (IsInLimit t.kind) (sym here) t.limit, next.limits);
     }
 rows (Space ∷ items) before gap text white_ apart good whole =
-    let next = rows items before (gap ++ 32 ∷ []) text (all_append (λ b. IsTrue (is_white b)) gap (32 ∷ []) white_ (refl, tt)) apart good
+    let next = rows items before (gap ++ 32 ∷ []) text
+    (all_append (λ b. IsTrue (is_white b)) gap (32 ∷ []) white_ (refl, tt)) apart good
     (whole ∙ ap (λ (bytes : List ℕ). before ++ bytes) (sym (append_assoc gap (32 ∷ []) (text_of items)))) in
     record {
       tokens = next.tokens;
       passed = next.passed;
       rest = next.rest;
-      row = subst (λ (bytes : List ℕ). Row next.tokens before bytes next.passed next.rest) (append_assoc gap (32 ∷ []) (text_of items)) next.row;
+      row = subst (λ (bytes : List ℕ). Row next.tokens before bytes next.passed next.rest)
+          (append_assoc gap (32 ∷ []) (text_of items)) next.row;
       is_gap = next.is_gap;
       sorts = next.sorts;
       limits = next.limits;
     }
 rows (LineFeed ∷ items) before gap text white_ apart good whole =
-    let next = rows items before (gap ++ 10 ∷ []) text (all_append (λ b. IsTrue (is_white b)) gap (10 ∷ []) white_ (refl, tt)) apart good
+    let next = rows items before (gap ++ 10 ∷ []) text
+    (all_append (λ b. IsTrue (is_white b)) gap (10 ∷ []) white_ (refl, tt)) apart good
     (whole ∙ ap (λ (bytes : List ℕ). before ++ bytes) (sym (append_assoc gap (10 ∷ []) (text_of items)))) in
     record {
       tokens = next.tokens;
       passed = next.passed;
       rest = next.rest;
-      row = subst (λ (bytes : List ℕ). Row next.tokens before bytes next.passed next.rest) (append_assoc gap (10 ∷ []) (text_of items)) next.row;
+      row = subst (λ (bytes : List ℕ). Row next.tokens before bytes next.passed next.rest)
+          (append_assoc gap (10 ∷ []) (text_of items)) next.row;
       is_gap = next.is_gap;
       sorts = next.sorts;
       limits = next.limits;
@@ -131,7 +144,13 @@ pub record Printed (items : List Item) : Type 0 where
   pub sorts : sorts_of (words_of (text_of items) tokens) ≡ tokens_in items
   pub limits : AllByRecursion (λ token. IsTokenInLimit (text_of items) token) tokens
 
-pub printed-tokens : (items : List Item) → Apart items [] → AllByRecursion IsWithinLimit (tokens_in items) → Printed items
+pub printed-tokens : (items : List Item) → Apart items [] → AllByRecursion IsWithinLimit (tokens_in items) →
+    Printed items
 printed-tokens items apart good =
     let all = rows items [] [] (text_of items) tt apart good refl in
-    record { tokens = all.tokens; are = (all.passed, all.rest, all.row, inl all.is_gap); sorts = all.sorts; limits = all.limits }
+    record {
+      tokens = all.tokens;
+      are = (all.passed, all.rest, all.row, inl all.is_gap);
+      sorts = all.sorts;
+      limits = all.limits;
+    }

@@ -1,5 +1,6 @@
 -- Where a token ends: which bytes may follow it.
-use Rattle.std.proofs.Common.{◌≡◌, ℕ, pos, negsuc, ◌^◌, ◌≤◌, ◌<◌, Bool, true, false, cond, not, ◌&&◌, List, [], ◌∷◌, ◌++◌, length, refl, sym, ap, ◌∙◌, subst, inl, inr, arith, Some, None}
+use Rattle.std.proofs.Common.{◌≡◌, ℕ, pos, negsuc, ◌^◌, ◌≤◌, ◌<◌, Bool, true, false, cond, not, ◌&&◌, List}
+use Rattle.std.proofs.Common.{[], ◌∷◌, ◌++◌, length, refl, sym, ap, ◌∙◌, subst, inl, inr, arith, Some, None}
 use Rattle.std.specs.Prelude.{nat_le}
 use Rattle.std.specs.List.{list_all}
 use Rattle.std.specs.Char.{is_ascii_alphabetic, is_ascii_digit}
@@ -9,7 +10,9 @@ use Rattle.std.proofs.lemmas.Fmt.{digits_decimal, digits_value-decimal, decimal_
 use Rattle.std.proofs.lemmas.Str.Parse.{numerals_by_value, tells_all_ascii_digits}
 use Rattle.std.proofs.lemmas.Slice.Eq.{bytes_eq-Decides}
 use Rattle.std.proofs.lemmas.List.Folds.{list_all-append}
-use Rattle.std.proofs.lemmas.Bool.{and_parts, and_from, and_left, and_right, or_cases, cases_Bool, both_ways, true≢false, false_from_ne_true, cond-true, cond-false, not-true}
+use Rattle.std.proofs.lemmas.Bool.{and_parts, and_from, and_left, and_right, or_cases, cases_Bool}
+use Rattle.std.proofs.lemmas.Bool.{both_ways, true≢false, false_from_ne_true, cond-true, cond-false}
+use Rattle.std.proofs.lemmas.Bool.{not-true}
 use Rattle.std.proofs.lemmas.Bool.Decides.{nat_tests}
 use Rattle.seuss_text.specs.Bytes.{is_white, is_name_byte}
 use Rattle.seuss_text.specs.Words.{signs, keywords, is_among, kind_of, IsLongest}
@@ -108,7 +111,8 @@ nothing_none : kind_of [] ≡ None
 nothing_none = cond-false _ _ _ (no_sign [] refl)
 
 -- a test that fails for a byte fails for each row with it
-row-fails : (p : ℕ → Bool) (xs : List ℕ) (b : ℕ) (more_ : List ℕ) → p b ≡ false → list_all p (xs ++ b ∷ more_) ≡ false
+row-fails : (p : ℕ → Bool) (xs : List ℕ) (b : ℕ) (more_ : List ℕ) → p b ≡ false →
+    list_all p (xs ++ b ∷ more_) ≡ false
 row-fails p xs b more_ h = list_all-append p xs (b ∷ more_) ∙ and_right _ _ (and_left _ _ h)
 
 -- behind a word that begins as names do comes a byte that no name goes on with
@@ -119,26 +123,34 @@ word-ends x xs b more_ name stop =
       | inl letter ↦ letters_none x (xs ++ b ∷ more_) letter (row-fails is_name_byte xs b more_ stop)
       | inr plain ↦
           elim (cases_Bool (is_ascii_digit x)) [
-            | inl digit ↦ digits_none x (xs ++ b ∷ more_) digit (row-fails is_ascii_digit xs b more_ (nameless_no_digit b stop))
-            | inr bare ↦ other_kind x (xs ++ b ∷ more_) plain bare ∙ cond-false _ _ _ (named_no_sign x (xs ++ b ∷ more_) name)
+            | inl digit ↦ digits_none x (xs ++ b ∷ more_) digit
+                (row-fails is_ascii_digit xs b more_ (nameless_no_digit b stop))
+            | inr bare ↦ other_kind x (xs ++ b ∷ more_) plain bare
+                ∙ cond-false _ _ _ (named_no_sign x (xs ++ b ∷ more_) name)
           ]
     ]
 
 -- behind a sign comes a byte that stands in none
-shape-ends : (x : ℕ) (xs : List ℕ) (b : ℕ) (more_ : List ℕ) → is_sign_byte b ≡ false → is_sign_shape (x ∷ xs ++ b ∷ more_) ≡ false
+shape-ends : (x : ℕ) (xs : List ℕ) (b : ℕ) (more_ : List ℕ) → is_sign_byte b ≡ false →
+    is_sign_shape (x ∷ xs ++ b ∷ more_) ≡ false
 shape-ends x [] b [] h = and_right _ _ h
 shape-ends x [] b (c ∷ more_) h = refl
 shape-ends x (y ∷ []) b more_ h = refl
 shape-ends x (y ∷ z ∷ zs) b more_ h = refl
 
-sign-ends : (x : ℕ) (xs : List ℕ) (b : ℕ) (more_ : List ℕ) → is_name_byte x ≡ false → is_sign_byte b ≡ false → kind_of (x ∷ xs ++ b ∷ more_) ≡ None
+sign-ends : (x : ℕ) (xs : List ℕ) (b : ℕ) (more_ : List ℕ) → is_name_byte x ≡ false →
+    is_sign_byte b ≡ false → kind_of (x ∷ xs ++ b ∷ more_) ≡ None
 sign-ends x xs b more_ plain stop =
-    other_kind x (xs ++ b ∷ more_) (nameless_no_letter x plain) (nameless_no_digit x plain) ∙ cond-false _ _ _ (no_sign (x ∷ xs ++ b ∷ more_) (shape-ends x xs b more_ stop))
+    other_kind x (xs ++ b ∷ more_) (nameless_no_letter x plain) (nameless_no_digit x plain)
+    ∙ cond-false _ _ _ (no_sign (x ∷ xs ++ b ∷ more_) (shape-ends x xs b more_ stop))
 
 -- a sign of one byte, which begins no sign with the byte behind it
-one-ends : (x b : ℕ) (more_ : List ℕ) → is_name_byte x ≡ false → is_among signs (x ∷ b ∷ []) ≡ false → kind_of (x ∷ b ∷ more_) ≡ None
-one-ends x b [] plain none = other_kind x (b ∷ []) (nameless_no_letter x plain) (nameless_no_digit x plain) ∙ cond-false _ _ _ none
-one-ends x b (c ∷ more_) plain none = other_kind x (b ∷ c ∷ more_) (nameless_no_letter x plain) (nameless_no_digit x plain) ∙ cond-false _ _ _ (no_sign (x ∷ b ∷ c ∷ more_) refl)
+one-ends : (x b : ℕ) (more_ : List ℕ) → is_name_byte x ≡ false → is_among signs (x ∷ b ∷ []) ≡ false →
+    kind_of (x ∷ b ∷ more_) ≡ None
+one-ends x b [] plain none = other_kind x (b ∷ []) (nameless_no_letter x plain) (nameless_no_digit x plain)
+    ∙ cond-false _ _ _ none
+one-ends x b (c ∷ more_) plain none = other_kind x (b ∷ c ∷ more_) (nameless_no_letter x plain)
+    (nameless_no_digit x plain) ∙ cond-false _ _ _ (no_sign (x ∷ b ∷ c ∷ more_) refl)
 
 -- the bytes that come next are none that a name goes on with
 abbrev pub Stops : List ℕ → Type 0
@@ -150,7 +162,9 @@ abbrev pub FollowsMinus : ℕ → Type 0
 FollowsMinus b = is_among signs (45 ∷ b ∷ []) ≡ false
 
 pub named-follows : (b : ℕ) → is_name_byte b ≡ true → FollowsMinus b
-named-follows b name = no_sign (45 ∷ b ∷ []) (and_right (is_sign_byte 45) _ (and_left _ (not (is_white b) && not (nat_le b 35 && nat_le 35 b)) (ap (λ t. not t) name)))
+named-follows b name = no_sign (45 ∷ b ∷ [])
+    (and_right (is_sign_byte 45) _
+    (and_left _ (not (is_white b) && not (nat_le b 35 && nat_le 35 b)) (ap (λ t. not t) name)))
 
 pub open-follows : FollowsMinus 40
 unfolding signs
@@ -167,27 +181,33 @@ minus-follows = refl
 first-same : (x y : ℕ) (xs ys : List ℕ) → x ∷ xs ≡ y ∷ ys → x ≡ y
 first-same x y xs ys h = cc
 
-pub longest-word : (word : List ℕ) (x : ℕ) (xs rest : List ℕ) → word ≡ x ∷ xs → is_name_byte x ≡ true → Stops rest → IsLongest word rest
+pub longest-word : (word : List ℕ) (x : ℕ) (xs rest : List ℕ) → word ≡ x ∷ xs → is_name_byte x ≡ true →
+    Stops rest → IsLongest word rest
 longest-word word x xs [] same name stop b more_ after h = absurd (empty_row b (more_ ++ after) h)
   where
     empty_row : (b : ℕ) (bs : List ℕ) → [] ≡ b ∷ bs → ⊥
     empty_row b bs h = cc
 longest-word word x xs (c ∷ rest) same name stop b more_ after h =
     subst (λ (w : List ℕ). kind_of (w ++ b ∷ more_) ≡ None) (sym same)
-    (word-ends x xs b more_ name (subst (λ y. is_name_byte y ≡ false) (first-same c b rest (more_ ++ after) h) stop))
+    (word-ends x xs b more_ name
+    (subst (λ y. is_name_byte y ≡ false) (first-same c b rest (more_ ++ after) h) stop))
 
-pub longest-before : (word : List ℕ) (x : ℕ) (xs : List ℕ) (c : ℕ) (rest : List ℕ) → word ≡ x ∷ xs → is_name_byte x ≡ false → is_sign_byte c ≡ false → IsLongest word (c ∷ rest)
+pub longest-before : (word : List ℕ) (x : ℕ) (xs : List ℕ) (c : ℕ) (rest : List ℕ) → word ≡ x ∷ xs →
+    is_name_byte x ≡ false → is_sign_byte c ≡ false → IsLongest word (c ∷ rest)
 longest-before word x xs c rest same plain stop b more_ after h =
     subst (λ (w : List ℕ). kind_of (w ++ b ∷ more_) ≡ None) (sym same)
-    (sign-ends x xs b more_ plain (subst (λ y. is_sign_byte y ≡ false) (first-same c b rest (more_ ++ after) h) stop))
+    (sign-ends x xs b more_ plain
+    (subst (λ y. is_sign_byte y ≡ false) (first-same c b rest (more_ ++ after) h) stop))
 
 -- a sign that begins no longer one
-pub longest-alone : (x : ℕ) (rest : List ℕ) → is_name_byte x ≡ false → ((b : ℕ) → is_among signs (x ∷ b ∷ []) ≡ false) → IsLongest (x ∷ []) rest
+pub longest-alone : (x : ℕ) (rest : List ℕ) → is_name_byte x ≡ false →
+    ((b : ℕ) → is_among signs (x ∷ b ∷ []) ≡ false) → IsLongest (x ∷ []) rest
 longest-alone x rest plain none b more_ after h = one-ends x b more_ plain (none b)
 
 pub longest-minus : (c : ℕ) (rest : List ℕ) → FollowsMinus c → IsLongest (45 ∷ []) (c ∷ rest)
 longest-minus c rest none b more_ after h =
-    one-ends 45 b more_ refl (subst (λ y. is_among signs (45 ∷ y ∷ []) ≡ false) (first-same c b rest (more_ ++ after) h) none)
+    one-ends 45 b more_ refl
+    (subst (λ y. is_among signs (45 ∷ y ∷ []) ≡ false) (first-same c b rest (more_ ++ after) h) none)
 
 pub open-alone : (b : ℕ) → is_among signs (40 ∷ b ∷ []) ≡ false
 unfolding signs
@@ -305,20 +325,30 @@ pub record Digits (ds : List ℕ) : Type 0 where
 
 digits-from : (ds : List ℕ) → all_ascii_digits ds ≡ true → 0 < length ds → Digits ds
 digits-from [] h some = absurd (omega (arith, some))
-digits-from (d ∷ ds) h some = record { first = d; others = ds; are = refl; digit = (and_parts _ _ h).0; all = all-digits ds (and_parts _ _ h).1 }
+digits-from (d ∷ ds) h some = record {
+  first = d;
+  others = ds;
+  are = refl;
+  digit = (and_parts _ _ h).0;
+  all =
+      all-digits ds (and_parts _ _ h).1;
+}
 
 pub number-digits : (n : ℕ) → n ≤ 9223372036854775807 → Digits (decimal n)
 number-digits n h = digits-from (decimal n)
-    (digits_decimal (numerals_by_value (λ ds. all_ascii_digits ds ≡ true) tells_all_ascii_digits) n (small n h))
+    (digits_decimal (numerals_by_value (λ ds. all_ascii_digits ds ≡ true) tells_all_ascii_digits) n
+    (small n h))
     (decimal_nonempty n (small n h))
 
 number-tells : (n : ℕ) → n ≤ 9223372036854775807 → Tells (Number (pos n))
 number-tells n h =
     let ds = number-digits n h in
-    let value = digits_value-decimal (numerals_by_value (λ ds. all_ascii_digits ds ≡ true) tells_all_ascii_digits) n (small n h) in
+    let value = digits_value-decimal
+    (numerals_by_value (λ ds. all_ascii_digits ds ≡ true) tells_all_ascii_digits) n (small n h) in
     record {
       kind = K.Number;
-      is = subst (λ ds. kind_of ds ≡ Some K.Number) (sym ds.are) (digits_kind ds.first ds.others ds.digit ds.all);
+      is = subst (λ ds. kind_of ds ≡ Some K.Number) (sym ds.are)
+          (digits_kind ds.first ds.others ds.digit ds.all);
       sort_is = ap (λ k. Number (pos k)) value;
       limit = subst (λ k. k ≤ 9223372036854775807) (sym value) h;
     }
@@ -345,13 +375,22 @@ name-first : (b : ℕ) (bs : List ℕ) → kind_of (b ∷ bs) ≡ Some K.Name �
 name-first b bs h =
     elim (cases_Bool (is_name_byte b)) [
       | inl name ↦ name
-      | inr plain ↦ absurd (no-name (is_among signs (b ∷ bs)) (sym (other_kind b bs (nameless_no_letter b plain) (nameless_no_digit b plain)) ∙ h))
+      | inr plain ↦ absurd
+          (no-name (is_among signs (b ∷ bs))
+          (sym (other_kind b bs (nameless_no_letter b plain) (nameless_no_digit b plain)) ∙ h))
     ]
 
 pub name-like : (text : List ℕ) → IsWithinLimit (Named text) → IsWordLike (Named text)
 name-like [] good = absurd (none-some _ (sym nothing_none ∙ good.0))
-name-like (b ∷ bs) good = record { first = b; others = bs; text = refl; name = name-first b bs good.0; known = tt }
+name-like (b ∷ bs) good = record
+    { first = b; others = bs; text = refl; name = name-first b bs good.0; known = tt }
 
 pub number-like : (n : ℕ) → IsWithinLimit (Number (pos n)) → IsWordLike (Number (pos n))
 number-like n good = let ds = number-digits n good in
-    record { first = ds.first; others = ds.others; text = ds.are; name = digit_is_named ds.first ds.digit; known = tt }
+    record {
+      first = ds.first;
+      others = ds.others;
+      text = ds.are;
+      name = digit_is_named ds.first ds.digit;
+      known = tt;
+    }

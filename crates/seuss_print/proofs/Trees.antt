@@ -11,10 +11,14 @@ use Rattle.seuss_program.specs.declared.tree.Expr.{Expr, ind-Expr, Expr-F, roll-
 use Rattle.seuss_program.specs.declared.tree.Node.{Node, Node-F, roll-Node, map-Node}
 use Rattle.seuss_program.specs.declared.tree.Node.TheOpen as L
 use Rattle.seuss_program.specs.declared.tree.Node.TheVariants as N
-use Rattle.seuss_program.specs.declared.tree.Node.TheVariants.{rolls-Int, rolls-Bool, rolls-Empty, rolls-Name, rolls-Neg, rolls-Not, rolls-Two, rolls-One}
-use Rattle.seuss_program.specs.declared.tree.Statement.{Statement, ind-Statement, map-Statement, roll-Statement}
+use Rattle.seuss_program.specs.declared.tree.Node.TheVariants.{rolls-Int, rolls-Bool, rolls-Empty}
+use Rattle.seuss_program.specs.declared.tree.Node.TheVariants.{rolls-Name, rolls-Neg, rolls-Not, rolls-Two}
+use Rattle.seuss_program.specs.declared.tree.Node.TheVariants.{rolls-One}
+use Rattle.seuss_program.specs.declared.tree.Statement.{Statement, ind-Statement, map-Statement}
+use Rattle.seuss_program.specs.declared.tree.Statement.{roll-Statement}
 use Rattle.seuss_program.specs.declared.tree.Statement.TheVariants as T
-use Rattle.seuss_program.specs.declared.tree.Statement.TheVariants.{rolls-Let, rolls-Assign, rolls-Call, rolls-If, rolls-While}
+use Rattle.seuss_program.specs.declared.tree.Statement.TheVariants.{rolls-Let, rolls-Assign, rolls-Call}
+use Rattle.seuss_program.specs.declared.tree.Statement.TheVariants.{rolls-If, rolls-While}
 use Rattle.seuss_program.specs.declared.tree.Statement.TheOpen as P
 use Rattle.seuss_program.specs.declared.tree.Statement.TheOpen.{Statement-F}
 use Rattle.seuss_program.specs.declared.tree.Statement.TheShapes.{former-Statement-If-1}
@@ -34,19 +38,29 @@ module _ (Q : Expr Name → Type 0) (forms : Forms Q) where
   abbrev OnNode : Node Name → Type 0
   OnNode n = (line : ℕ) → Q (G.expression line n)
 
-  node-step : {A B : Type 0} (f : A → Node Name) (g : B → Expr Name) → ((b : B) → Q (g b)) → (y : Node-F Name A B) →
+  node-step : {A B : Type 0} (f : A → Node Name) (g : B → Expr Name) → ((b : B) → Q (g b)) →
+      (y : Node-F Name A B) →
       OnNode (roll-Node Name (map-Node Name A B (Node Name) (Expr Name) f g y))
-  node-step f g holds (L.Int z) line = subst (λ n. Q (G.expression line n)) (sym (rolls-Int z)) (forms.int line z)
-  node-step f g holds (L.Bool b) line = subst (λ n. Q (G.expression line n)) (sym (rolls-Bool b)) (forms.bool line b)
-  node-step f g holds L.Empty line = subst (λ n. Q (G.expression line n)) (sym (rolls-Empty)) (forms.empty line)
-  node-step f g holds (L.Name n) line = subst (λ n. Q (G.expression line n)) (sym (rolls-Name n)) (forms.name line n)
-  node-step f g holds (L.Neg e) line = subst (λ n. Q (G.expression line n)) (sym (rolls-Neg (g e))) (forms.neg line (g e) (holds e))
-  node-step f g holds (L.Not e) line = subst (λ n. Q (G.expression line n)) (sym (rolls-Not (g e))) (forms.not line (g e) (holds e))
+  node-step f g holds (L.Int z) line = subst (λ n. Q (G.expression line n)) (sym (rolls-Int z))
+      (forms.int line z)
+  node-step f g holds (L.Bool b) line = subst (λ n. Q (G.expression line n)) (sym (rolls-Bool b))
+      (forms.bool line b)
+  node-step f g holds L.Empty line = subst (λ n. Q (G.expression line n)) (sym (rolls-Empty))
+      (forms.empty line)
+  node-step f g holds (L.Name n) line = subst (λ n. Q (G.expression line n)) (sym (rolls-Name n))
+      (forms.name line n)
+  node-step f g holds (L.Neg e) line = subst (λ n. Q (G.expression line n)) (sym (rolls-Neg (g e)))
+      (forms.neg line (g e) (holds e))
+  node-step f g holds (L.Not e) line = subst (λ n. Q (G.expression line n)) (sym (rolls-Not (g e)))
+      (forms.not line (g e) (holds e))
   node-step f g holds (L.Two op l r) line =
-      subst (λ n. Q (G.expression line n)) (sym (rolls-Two op (g l) (g r))) (forms.two line op (g l) (g r) (holds l) (holds r))
-  node-step f g holds (L.One fun e) line = subst (λ n. Q (G.expression line n)) (sym (rolls-One fun (g e))) (forms.one line fun (g e) (holds e))
+      subst (λ n. Q (G.expression line n)) (sym (rolls-Two op (g l) (g r)))
+      (forms.two line op (g l) (g r) (holds l) (holds r))
+  node-step f g holds (L.One fun e) line = subst (λ n. Q (G.expression line n)) (sym (rolls-One fun (g e)))
+      (forms.one line fun (g e) (holds e))
 
-  expr-step : {A B : Type 0} (f : A → Node Name) (g : B → Expr Name) → ((a : A) → OnNode (f a)) → (y : Expr-F Name A B) →
+  expr-step : {A B : Type 0} (f : A → Node Name) (g : B → Expr Name) → ((a : A) → OnNode (f a)) →
+      (y : Expr-F Name A B) →
       Q (roll-Expr Name (map-Expr Name A B (Node Name) (Expr Name) f g y))
   expr-step f g holds y = holds y.node y.line
 
@@ -60,9 +74,11 @@ pub record StatementForms (Q : Statement Name → Type 0) : Type 0 where
   pub let_ : (n : Name) (kind : Kind) (e : Expr Name) → Q (T.Let n kind e)
   pub assign : (n : Name) (e : Expr Name) → Q (T.Assign n e)
   pub call : (bind : Option Name) (c : Call Name) → Q (T.Call bind c)
-  pub if_ : (cond : Expr Name) (holds fails : List (Statement Name)) → AllByRecursion Q holds → AllByRecursion Q fails →
+  pub if_ : (cond : Expr Name) (holds fails : List (Statement Name)) → AllByRecursion Q holds →
+      AllByRecursion Q fails →
       Q (T.If cond holds fails)
-  pub while_ : (cond : Expr Name) (turn : List (Statement Name)) → AllByRecursion Q turn → Q (T.While cond turn)
+  pub while_ : (cond : Expr Name) (turn : List (Statement Name)) → AllByRecursion Q turn →
+      Q (T.While cond turn)
 
 module _ (Q : Statement Name → Type 0) (forms : StatementForms Q) where
   each-holds : {A : Type 0} (f : A → Statement Name) → ((a : A) → Q (f a)) → (xs : List A) →
@@ -76,7 +92,8 @@ module _ (Q : Statement Name → Type 0) (forms : StatementForms Q) where
   statement-step f holds (P.Assign n e) = subst Q (sym (rolls-Assign n e)) (forms.assign n e)
   statement-step f holds (P.Call bind c) = subst Q (sym (rolls-Call bind c)) (forms.call bind c)
   statement-step f holds (P.If cond yes_ no_) =
-      subst Q (sym (rolls-If cond _ _)) (forms.if_ cond _ _ (each-holds f holds yes_) (each-holds f holds no_))
+      subst Q (sym (rolls-If cond _ _))
+      (forms.if_ cond _ _ (each-holds f holds yes_) (each-holds f holds no_))
   statement-step f holds (P.While cond turn) =
       subst Q (sym (rolls-While cond _)) (forms.while_ cond _ (each-holds f holds turn))
 

@@ -1,5 +1,6 @@
 -- The canonical text of a tree. Each line ends with a line feed.
-use Rattle.std.specs.Prelude.{ℕ, ℤ, pos, negsuc, suc, Bool, true, false, if◌then◌else◌, List, [], ◌∷◌, ◌++◌, Option, None, Some}
+use Rattle.std.specs.Prelude.{ℕ, ℤ, pos, negsuc, suc, Bool, true, false, if◌then◌else◌, List, [], ◌∷◌, ◌++◌}
+use Rattle.std.specs.Prelude.{Option, None, Some}
 use Rattle.std.specs.List.{flat_map}
 use Rattle.std.specs.Ordering.{int_eq}
 use Rattle.seuss_parser.specs.declared.symbol.Symbol.{Symbol}
@@ -21,7 +22,8 @@ use Rattle.seuss_program.specs.declared.tree.Semi.{Semi}
 use Rattle.seuss_program.specs.declared.tree.Cat.{Cat}
 use Rattle.seuss_program.specs.declared.tree.BoxDecl.{BoxDecl}
 use Rattle.seuss_program.specs.declared.tree.Tree.{Tree}
-use Rattle.seuss_print.specs.Items.{Item, Space, symbol, named, number, spaced, line, bracketed, separated, perhaps_bracketed, text_of}
+use Rattle.seuss_print.specs.Items.{Item, Space, symbol, named, number, spaced, line, bracketed, separated}
+use Rattle.seuss_print.specs.Items.{perhaps_bracketed, text_of}
 use Rattle.seuss_print.specs.Expressions.{expression, truth_symbol}
 use Rattle.seuss_print.specs.Statements.{typed, binding, call_items, body}
 
@@ -103,7 +105,8 @@ hint h = Space ∷ symbol (side_symbol h.front) ∷ Space ∷ named h.name ∷ S
 -- `semi first, second` and its hints
 abbrev pub semi : Semi Name → List Item
 semi s =
-    line 1 (symbol S.Semi ∷ Space ∷ named s.first ∷ symbol S.Comma ∷ Space ∷ named s.second ∷ flat_map hint s.hints)
+    line 1 (symbol S.Semi ∷ Space ∷ named s.first ∷ symbol S.Comma ∷ Space ∷ named s.second
+    ∷ flat_map hint s.hints)
 
 -- `name : cat`
 abbrev pub given : Given Name → List Item
@@ -127,7 +130,8 @@ box b =
 -- all that is printed of a tree
 abbrev pub program : Tree → List Item
 program tree =
-    line 0 (symbol S.Seuss ∷ Space ∷ number (pos 1) ∷ []) ++ flat_map cat tree.cats ++ flat_map box tree.boxes
+    line 0 (symbol S.Seuss ∷ Space ∷ number (pos 1) ∷ []) ++ flat_map cat tree.cats
+    ++ flat_map box tree.boxes
 
 abbrev pub canonical_text : Tree → List ℕ
 canonical_text tree = text_of (program tree)

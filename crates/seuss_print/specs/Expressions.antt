@@ -75,7 +75,8 @@ op_level O.Remainder = 5
 op_level O.At = primary_level
 op_level O.Add = primary_level
 
--- the level that an operator wants of its left part, and of its right one: all but comparisons group to the left
+-- the level that an operator wants of its left part, and of its right one: all but comparisons group to the
+-- left
 abbrev pub left_level : Op → ℕ
 left_level op = if is_comparison op then suc (op_level op) else op_level op
 
@@ -98,7 +99,8 @@ primary items = record { level = primary_level; items = items }
 -- an operator between its parts, or a function of two parts
 abbrev pub two_items : Op → Printed → Printed → List Item
 two_items op left right =
-    if op_level op == primary_level then symbol (op_symbol op) ∷ bracketed (left.items ++ behind_comma (λ (part : Printed). part.items) right)
+    if op_level op == primary_level then symbol (op_symbol op)
+    ∷ bracketed (left.items ++ behind_comma (λ (part : Printed). part.items) right)
     else at_level (left_level op) left ++ spaced (symbol (op_symbol op)) ++ at_level (right_level op) right
 
 -- one node, over its printed parts

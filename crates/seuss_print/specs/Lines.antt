@@ -44,7 +44,8 @@ node_step (L.Two op l r) = N.Two op l r
 node_step (L.One fun e) = N.One fun e
 
 unfoldable pub expression : Expr Name → Expr Name
-expression e = fold-Expr Name (Node Name) (Expr Name) node_step (λ layer. record { line = 0; node = layer.node }) e
+expression e = fold-Expr Name (Node Name) (Expr Name) node_step
+    (λ layer. record { line = 0; node = layer.node }) e
 
 abbrev pub call : Call Name → Call Name
 call c = record { target = name c.target; method = name c.method; args = map expression c.args }

@@ -1,5 +1,6 @@
 -- Which trees are printed: those that some text spells.
-use Rattle.std.specs.Prelude.{◌≡◌, ℕ, suc, ◌+◌, ◌^◌, ◌<◌, ◌≤◌, max, pos, negsuc, Bool, true, false, List, [], ◌∷◌, ◌++◌, length, count_by, All, Option, None, Some}
+use Rattle.std.specs.Prelude.{◌≡◌, ℕ, suc, ◌+◌, ◌^◌, ◌<◌, ◌≤◌, max, pos, negsuc, Bool, true, false, List}
+use Rattle.std.specs.Prelude.{[], ◌∷◌, ◌++◌, length, count_by, All, Option, None, Some}
 use Rattle.seuss_text.specs.Limits.{max_name, max_number}
 use Rattle.seuss_text.specs.Words.{kind_of}
 use Rattle.seuss_text.specs.declared.token.TokenKind.TheVariants.{Name as IsName}
@@ -25,8 +26,9 @@ use Rattle.seuss_print.specs.Items.{Item, tokens_in}
 use Rattle.seuss_print.specs.Expressions.{expression}
 use Rattle.seuss_print.specs.Canonical.{program}
 
--- A name is a name of at most 32 bytes, and a number lies between 0 and 9,223,372,036,854,775,807. This is asked of
--- the tokens that are printed, so of numbers in expressions, of start values without their minus, and of depths.
+-- A name is a name of at most 32 bytes, and a number lies between 0 and 9,223,372,036,854,775,807. This is
+-- asked of the tokens that are printed, so of numbers in expressions, of start values without their minus,
+-- and of depths.
 abbrev pub IsWithinLimit : Sort → Type 0
 IsWithinLimit (Fixed symbol) = Unit {0}
 IsWithinLimit (Named text) = (kind_of text ≡ Some IsName) × (length text ≤ max_name)
@@ -106,7 +108,8 @@ statement_step (T.While cond turn) = around cond (joined turn)
 unfoldable pub content : Statement Name → Content
 content s = fold-Statement Name Content statement_step s
 
--- the lines inside this statement stand inside so few others, beside those around it, that they can be counted
+-- the lines inside this statement stand inside so few others, beside those around it, that they can be
+-- counted
 abbrev pub HasRoom : ℕ → Statement Name → Type 0
 HasRoom depth s = depth + (content s).depth < 2 ^ 32
 

@@ -5,7 +5,12 @@ ghost use Rattle.seuss_program.specs.declared.tree.Name.{Name as TreeName};
 ghost use Rattle.seuss_program.specs.declared.tree.Proc.{Proc as Procedure};
 ghost use Rattle.seuss_program.specs.declared.state.Value.TheVariants.{Seq};
 ghost use Rattle.seuss_print.specs.Items.{text_of, behind_comma, separated, perhaps_bracketed};
-ghost use Rattle.seuss_print.specs.Canonical.{pre_items, arrow_symbol, alternative, param, result_items, method_head, procedure, total_items, partial_items, action_items, form_items, signed, start_items, variable, side_symbol, hint, semi, given, cat, box_name, box};
+ghost use Rattle.seuss_print.specs.Canonical.{pre_items, arrow_symbol, alternative, param, result_items};
+ghost use Rattle.seuss_print.specs.Canonical.{method_head, procedure, total_items, partial_items};
+ghost use Rattle.seuss_print.specs.Canonical.{action_items};
+ghost use Rattle.seuss_print.specs.Canonical.{form_items, signed, start_items, variable, side_symbol, hint};
+ghost use Rattle.seuss_print.specs.Canonical.{semi};
+ghost use Rattle.seuss_print.specs.Canonical.{given, cat, box_name, box};
 ghost use Rattle.seuss_print.specs.Printable.{IsKeptStatement, IsKeptAlternative, IsKeptForm, IsKeptCat};
 
 use crate::expressions::{push_expression, push_spaced, truth_text};
@@ -176,7 +181,8 @@ fn number_at(numbers: &Ints, at: u64) -> i64
 
 /// Puts further numbers at the end, each behind a comma.
 fn push_others(text: &mut Text, numbers: &Ints) -> Result<(), Memory>
-    ensures { OnOk result (text.new ≡ text.old ++ text_of (flat_map (behind_comma signed) (drop 1 numbers.now))) }
+    ensures { OnOk result
+        (text.new ≡ text.old ++ text_of (flat_map (behind_comma signed) (drop 1 numbers.now))) }
 {
     for at in 1..numbers.len() {
         text.push_all(b", ")?;

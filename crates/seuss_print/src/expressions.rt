@@ -1,7 +1,8 @@
 ghost use Rattle.std.specs.Prelude.{◌≡◌, [], ◌∷◌, ◌++◌, OnOk};
 ghost use Rattle.seuss_parser.specs.Symbols.{symbol_text};
 ghost use Rattle.seuss_print.specs.Items.{text_of};
-ghost use Rattle.seuss_print.specs.Expressions.{op_symbol, fun_symbol, truth_symbol, op_level, left_level, right_level, printed, expression, at_level};
+ghost use Rattle.seuss_print.specs.Expressions.{op_symbol, fun_symbol, truth_symbol, op_level, left_level};
+ghost use Rattle.seuss_print.specs.Expressions.{right_level, printed, expression, at_level};
 
 use crate::numbers::push_number;
 use seuss_base::{Memory, Text};

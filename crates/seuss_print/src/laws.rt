@@ -29,8 +29,8 @@ pub fn lines_dont_show()
     ensures { (tree other : Tree) → SameUpToLines tree other → canonical_text tree ≡ canonical_text other }
 {}
 
-/// No text that spells a tree, but for lines, has fewer tokens than its canonical text: without a pair of its
-/// parentheses it would be another tree's, or none's.
+/// No text that spells a tree, but for lines, has fewer tokens than its canonical text: without a pair of
+/// its parentheses it would be another tree's, or none's.
 pub fn fewest_tokens()
     ensures { (text : List ℕ) (tokens : List Token) (tree other : Tree) → AreTokens text tokens →
         AreInLimits text tokens → AreProgram (words_of text tokens) other → SameUpToLines tree other →

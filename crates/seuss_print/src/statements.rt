@@ -4,7 +4,9 @@ ghost use Rattle.seuss_parser.specs.Symbols.{symbol_text};
 ghost use Rattle.seuss_parser.specs.declared.symbol.Symbol.TheVariants.{If, Then, While, Do, End};
 ghost use Rattle.seuss_print.specs.Items.{text_of, indented, line, symbol, separated, behind_comma};
 ghost use Rattle.seuss_print.specs.Expressions.{expression};
-ghost use Rattle.seuss_print.specs.Statements.{kind_symbol, typed, binding, call_items, let_line, assignment_line, call_line, head_line, statement, body, else_of};
+ghost use Rattle.seuss_print.specs.Statements.{kind_symbol, typed, binding, call_items, let_line};
+ghost use Rattle.seuss_print.specs.Statements.{assignment_line, call_line, head_line, statement, body};
+ghost use Rattle.seuss_print.specs.Statements.{else_of};
 ghost use Rattle.seuss_print.specs.Printable.{HasRoom};
 
 use crate::expressions::{push_expression, push_spaced};

@@ -20,7 +20,8 @@ const VERSION: i64 = 1;
 pub fn print(alloc: Global, tree: &Tree) -> Result<Text, Memory>
     requires { IsPrintable tree.now }
     ensures text { IfOk result (λ text. text ≡ canonical_text tree.now) }
-    ensures spells { IfOk result (λ text. (other : Parsed) × Spells text other × SameUpToLines tree.now other) }
+    ensures spells { IfOk result
+        (λ text. (other : Parsed) × Spells text other × SameUpToLines tree.now other) }
 {
     let mut text = Text::new(alloc);
     push_tree(&mut text, tree)?;

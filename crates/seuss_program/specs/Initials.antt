@@ -1,5 +1,6 @@
 -- The state in which a program starts.
-use Rattle.std.specs.Prelude.{ℕ, ℤ, Bool, if◌then◌else◌, ◌==◌, List, [], ◌∷◌, map, slice_get, slice_set, Option, None, Some}
+use Rattle.std.specs.Prelude.{ℕ, ℤ, Bool, if◌then◌else◌, ◌==◌, List, [], ◌∷◌, map, slice_get, slice_set}
+use Rattle.std.specs.Prelude.{Option, None, Some}
 use Rattle.seuss_program.specs.declared.tree.Ref.{Ref}
 use Rattle.seuss_program.specs.declared.tree.Cat.{Cat}
 use Rattle.seuss_program.specs.declared.tree.Var.{Var}

@@ -1,5 +1,7 @@
 -- What a checked program keeps, and the form that each of its states has.
-use Rattle.std.specs.Prelude.{◌≡◌, ℕ, ◌+◌, ◌<◌, ◌≤◌, nat_lt, nat_le, max, Bool, true, false, ◌&&◌, not, if◌then◌else◌, List, [], ◌∷◌, ◌++◌, map, length, slice_get, Option, None, Some, option_and_then, All, IsTrue, ◌==◌}
+use Rattle.std.specs.Prelude.{◌≡◌, ℕ, ◌+◌, ◌<◌, ◌≤◌, nat_lt, nat_le, max, Bool, true, false, ◌&&◌, not}
+use Rattle.std.specs.Prelude.{if◌then◌else◌, List, [], ◌∷◌, ◌++◌, map, length, slice_get, Option, None}
+use Rattle.std.specs.Prelude.{Some, option_and_then, All, IsTrue, ◌==◌}
 use Rattle.seuss_program.specs.declared.tree.Ref.{Ref}
 use Rattle.seuss_program.specs.declared.tree.Ref.TheVariants as R
 use Rattle.seuss_program.specs.declared.tree.Kind.{Kind}
@@ -105,7 +107,8 @@ kind_set s (R.Cat number) = None
 
 -- this kind, where two parts have the kinds that are wanted
 abbrev pub of_kinds : Kind → Kind → Kind → Kind → Kind → Option Kind
-of_kinds wanted_left wanted_right k left right = if is_kind wanted_left left && is_kind wanted_right right then Some k else None
+of_kinds wanted_left wanted_right k left right = if is_kind wanted_left left && is_kind wanted_right right
+    then Some k else None
 
 -- the kind of two parts under an operator, where it takes parts of their kinds
 abbrev pub two_kind : Op → Kind → Kind → Option Kind
@@ -164,7 +167,8 @@ cat_at cats (R.Method number) = None
 
 -- the declared cat of a given box
 abbrev pub given_cat : Scope → Ref → Option (Cat Ref)
-given_cat s (R.Given number) = option_and_then (λ (g : Given Ref). cat_at s.cats g.cat) (slice_get s.given number)
+given_cat s (R.Given number) = option_and_then (λ (g : Given Ref). cat_at s.cats g.cat)
+    (slice_get s.given number)
 given_cat s (R.Var number) = None
 given_cat s (R.Slot number) = None
 given_cat s (R.Method number) = None
@@ -212,7 +216,8 @@ bind_fits s (Some name) gives = gives && is_of K.Int (kind_set s name)
 -- whether a call is one of a procedure of this form, with its arguments and its result
 abbrev pub meets : Scope → (Form Ref → Bool) → Option Ref → List (Expr Ref) → Option (Proc Ref) → Bool
 meets s form bind args None = false
-meets s form bind args (Some q) = form q.form && (arguments_fit s args (param_kinds q.params) && bind_fits s bind q.gives)
+meets s form bind args (Some q) = form q.form &&
+    (arguments_fit s args (param_kinds q.params) && bind_fits s bind q.gives)
 
 abbrev pub call_fits : Scope → (Form Ref → Bool) → Option Ref → Call Ref → Bool
 call_fits s form bind call = meets s form bind call.args (called s call)
@@ -231,7 +236,8 @@ abbrev pub statement_step : Scope → Statement-F Ref Bool → Bool
 statement_step s (S.Let name kind e) = is_of kind (kind_set s name) && is_of kind (kind_in s e)
 statement_step s (S.Assign name e) = assigns s (kind_set s name) e
 statement_step s (S.Call bind call) = call_fits s is_total bind call
-statement_step s (S.If cond holds fails) = is_of K.Bool (kind_in s cond) && (all_true holds && all_true fails)
+statement_step s (S.If cond holds fails) = is_of K.Bool (kind_in s cond) &&
+    (all_true holds && all_true fails)
 statement_step s (S.While cond turn) = is_of K.Bool (kind_in s cond) && all_true turn
 
 -- whether each name, kind and call of a statement is right
@@ -274,7 +280,8 @@ pub record KeepsProcedure (cats : List (Cat Ref)) (c : Cat Ref) (q : Proc Ref) :
 
 -- a hint names a variable that is a sequence, to a depth of at most 4
 pub record KeepsHint (c : Cat Ref) (hint : Hint Ref) : Type 0 where
-  pub variable : (number : ℕ) × (hint.name ≡ R.Var number) × (slice_get (var_kinds c.vars) number ≡ Some K.Seq)
+  pub variable : (number : ℕ) × (hint.name ≡ R.Var number)
+      × (slice_get (var_kinds c.vars) number ≡ Some K.Seq)
   pub depth : hint.depth ≤ 4
 
 -- a certificate names a method, and then a total one
@@ -334,7 +341,8 @@ pub record KeepsBox (p : Program) (b : BoxInfo) : Type 0 where
 abbrev pub actions_among : ℕ → ℕ → List (Proc Ref) → List ActionInfo
 actions_among box number [] = []
 actions_among box number (q ∷ qs) =
-    if is_action q.form then record { box_number = box; procedure = number } ∷ actions_among box (number + 1) qs
+    if is_action q.form then record { box_number = box; procedure = number }
+    ∷ actions_among box (number + 1) qs
     else actions_among box (number + 1) qs
 
 abbrev pub procedures_in : Option (Cat Ref) → List (Proc Ref)

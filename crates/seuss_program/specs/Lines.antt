@@ -51,12 +51,15 @@ early_calls (F.Action alts) = flat_map (λ (a : Alternative Ref). pre_calls a.pr
 -- calls, on the boxes that they name.
 pub data InLine (p : Program) (a : ActionInfo) : ℕ → ℕ → Type 0 where
   Own : InLine p a a.box_number a.procedure
-  Early : (box number : ℕ) (q : Proc Ref) (call : Call Ref) → InLine p a box number → procedure_of p box number ≡ Some q →
+  Early : (box number : ℕ) (q : Proc Ref) (call : Call Ref) → InLine p a box number →
+      procedure_of p box number ≡ Some q →
       IsIn call (early_calls q.form) → InLine p a (target_of p box call.target) (method_of call.method)
 
 -- The tail of an action: each method called in a body of a procedure in its line or in its tail, on its box.
 pub data InTail (p : Program) (a : ActionInfo) : ℕ → ℕ → Type 0 where
-  OfLine : (box number : ℕ) (q : Proc Ref) (call : Call Ref) → InLine p a box number → procedure_of p box number ≡ Some q →
+  OfLine : (box number : ℕ) (q : Proc Ref) (call : Call Ref) → InLine p a box number →
+      procedure_of p box number ≡ Some q →
       IsIn call (body_calls q.form) → InTail p a (target_of p box call.target) (method_of call.method)
-  OfTail : (box number : ℕ) (q : Proc Ref) (call : Call Ref) → InTail p a box number → procedure_of p box number ≡ Some q →
+  OfTail : (box number : ℕ) (q : Proc Ref) (call : Call Ref) → InTail p a box number →
+      procedure_of p box number ≡ Some q →
       IsIn call (body_calls q.form) → InTail p a (target_of p box call.target) (method_of call.method)

@@ -1,5 +1,6 @@
 -- Which orders of attempts a run may print. Attempt a of n actions is action a % n in round a / n.
-use Rattle.std.specs.Prelude.{◌≡◌, ◌≢◌, ℕ, ◌*◌, ◌/◌, ◌%◌, ◌<◌, ◌≤◌, ◌⊎◌, Bool, true, false, IsTrue, List, map, All, AllPairs, Any, Contains}
+use Rattle.std.specs.Prelude.{◌≡◌, ◌≢◌, ℕ, ◌*◌, ◌/◌, ◌%◌, ◌<◌, ◌≤◌, ◌⊎◌, Bool, true, false, IsTrue, List}
+use Rattle.std.specs.Prelude.{map, All, AllPairs, Any, Contains}
 use Rattle.seuss_base.specs.declared.outcome.Outcome.{Outcome}
 use Rattle.seuss_base.specs.declared.outcome.Outcome.TheVariants as O
 use Rattle.seuss_program.specs.declared.order.Placed.{Placed}

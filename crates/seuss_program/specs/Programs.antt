@@ -1,5 +1,6 @@
 -- What stands where in a program and in a state.
-use Rattle.std.specs.Prelude.{ℕ, List, [], slice_index_or, slice_get, slice_set, Option, None, Some, option_and_then}
+use Rattle.std.specs.Prelude.{ℕ, List, [], slice_index_or, slice_get, slice_set, Option, None, Some}
+use Rattle.std.specs.Prelude.{option_and_then}
 use Rattle.seuss_program.specs.declared.tree.Ref.{Ref}
 use Rattle.seuss_program.specs.declared.tree.Ref.TheVariants as R
 use Rattle.seuss_program.specs.declared.tree.Cat.{Cat}
@@ -51,4 +52,5 @@ vars_of state box = (slice_index_or state.boxes box (record { values = [] })).va
 
 -- the state with one variable of one box changed
 abbrev pub with_var : State → ℕ → ℕ → Value → State
-with_var state box number v = record { boxes = slice_set state.boxes box (record { values = slice_set (vars_of state box) number v }) }
+with_var state box number v = record
+    { boxes = slice_set state.boxes box (record { values = slice_set (vars_of state box) number v }) }

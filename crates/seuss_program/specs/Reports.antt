@@ -1,5 +1,6 @@
 -- The report of a run, byte for byte. Each line ends with a line feed.
-use Rattle.std.specs.Prelude.{ℕ, ◌+◌, ◌/◌, ◌==◌, ℤ, Bool, true, false, if◌then◌else◌, List, [], ◌∷◌, ◌++◌, length, map, filter, codes, slice_get, Option, None, Some}
+use Rattle.std.specs.Prelude.{ℕ, ◌+◌, ◌/◌, ◌==◌, ℤ, Bool, true, false, if◌then◌else◌, List, [], ◌∷◌, ◌++◌}
+use Rattle.std.specs.Prelude.{length, map, filter, codes, slice_get, Option, None, Some}
 use Rattle.std.specs.Fmt.{decimal, signed_decimal}
 use Rattle.std.specs.List.{flat_map, range_with_len}
 use Rattle.seuss_base.specs.declared.outcome.Trap.{Trap}
@@ -61,7 +62,8 @@ proc_name (Some q) = q.name.text
 -- an action as BOX.ACTION
 abbrev pub action_name : Program → Option ActionInfo → List ℕ
 action_name p None = []
-action_name p (Some a) = box_name (slice_get p.boxes a.box_number) ++ codes "." ++ proc_name (procedure_of p a.box_number a.procedure)
+action_name p (Some a) = box_name (slice_get p.boxes a.box_number) ++ codes "."
+    ++ proc_name (procedure_of p a.box_number a.procedure)
 
 -- the line of one attempt
 abbrev pub attempt_line : Program → Placed → List ℕ
@@ -74,7 +76,8 @@ of_round n round order = filter (λ (e : Placed). e.attempt / n == round) order
 -- a round, as the number that is printed for it, and its attempts
 abbrev pub round_text : Program → List Placed → ℕ → ℕ → List ℕ
 round_text p order first round =
-    line (codes "round " ++ decimal (first + round)) ++ flat_map (attempt_line p) (of_round (length p.actions) round order)
+    line (codes "round " ++ decimal (first + round))
+    ++ flat_map (attempt_line p) (of_round (length p.actions) round order)
 
 -- how a run ends, by the first attempt that stopped it
 abbrev pub last_line_of : Outcome → ℕ → LastLine → LastLine
@@ -126,7 +129,8 @@ box_lines cats (b ∷ bs) (vars ∷ state) =
 
 abbrev pub last_line_text : Program → LastLine → List ℕ
 last_line_text p L.Done = line (codes "done")
-last_line_text p (L.Trapped a t) = line (codes "trapped " ++ action_name p (slice_get p.actions a) ++ codes " " ++ trap_text t)
+last_line_text p (L.Trapped a t) = line
+    (codes "trapped " ++ action_name p (slice_get p.actions a) ++ codes " " ++ trap_text t)
 last_line_text p (L.Spent a) = line (codes "spent " ++ action_name p (slice_get p.actions a))
 
 -- the lines behind the rounds: the values of all variables, and how the run ended

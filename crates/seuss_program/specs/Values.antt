@@ -1,10 +1,14 @@
 -- The value of an expression, from left to right, or the trap that stops it. A checked program meets
 -- no value of a wrong kind; elsewhere such a value stands for 0, for false or for the empty sequence.
-use Rattle.std.specs.Prelude.{◌-◌, ◌^◌, nat_lt, ℤ, pos, negsuc, neg_ℤ, ◌+ℤ◌, ◌-ℤ◌, ◌*ℤ◌, int_lt, int_le, int_div, int_rem, Bool, true, false, ◌&&◌, ◌||◌, not, if◌then◌else◌, List, [], ◌∷◌, ◌++◌, length, take, drop, slice_index_or, slice_get, Option, None, Some, Result, Ok, Err}
+use Rattle.std.specs.Prelude.{◌-◌, ◌^◌, nat_lt, ℤ, pos, negsuc, neg_ℤ, ◌+ℤ◌, ◌-ℤ◌, ◌*ℤ◌, int_lt, int_le}
+use Rattle.std.specs.Prelude.{int_div, int_rem, Bool, true, false, ◌&&◌, ◌||◌, not, if◌then◌else◌, List, []}
+use Rattle.std.specs.Prelude.{◌∷◌, ◌++◌, length, take, drop, slice_index_or, slice_get, Option, None, Some}
+use Rattle.std.specs.Prelude.{Result, Ok, Err}
 use Rattle.std.specs.Int.{w64, int_wrap}
 use Rattle.std.specs.Ordering.{int_eq}
 use Rattle.seuss_base.specs.declared.outcome.Trap.{Trap}
-use Rattle.seuss_base.specs.declared.outcome.Trap.TheVariants.{Overflow, ZeroDivisor, EmptySequence, OutOfRange}
+use Rattle.seuss_base.specs.declared.outcome.Trap.TheVariants.{Overflow, ZeroDivisor, EmptySequence}
+use Rattle.seuss_base.specs.declared.outcome.Trap.TheVariants.{OutOfRange}
 use Rattle.seuss_program.specs.declared.state.Value.{Value}
 use Rattle.seuss_program.specs.declared.state.Value.TheVariants as V
 use Rattle.seuss_program.specs.declared.tree.Ref.{Ref}
@@ -166,7 +170,8 @@ both O.Or l r vars slots = and_then (l.value vars slots) (λ x.
     if bool_of x then Ok (V.Bool true) else and_then (r.value vars slots) (λ y. Ok (V.Bool (bool_of y))))
 both O.And l r vars slots = and_then (l.value vars slots) (λ x.
     if bool_of x then and_then (r.value vars slots) (λ y. Ok (V.Bool (bool_of y))) else Ok (V.Bool false))
-both op l r vars slots = and_then (next_to op l r vars slots) (λ x. and_then (next_to op r l vars slots) (apply op x))
+both op l r vars slots = and_then (next_to op l r vars slots)
+    (λ x. and_then (next_to op r l vars slots) (apply op x))
 
 -- the length itself
 abbrev pub exact_length : Fun → List ℤ → Evaluated
@@ -197,7 +202,8 @@ node_part (N.Bool b) = plain (λ vars slots. Ok (V.Bool b))
 node_part N.Empty = plain (λ vars slots. Ok (V.Seq []))
 node_part (N.Name name) = plain (λ vars slots. Ok (named name vars slots))
 node_part (N.Neg e) = negated e
-node_part (N.Not e) = plain (λ vars slots. and_then (e.value vars slots) (λ v. Ok (V.Bool (not (bool_of v)))))
+node_part (N.Not e) = plain
+    (λ vars slots. and_then (e.value vars slots) (λ v. Ok (V.Bool (not (bool_of v)))))
 node_part (N.Two op l r) = plain (both op l r)
 node_part (N.One fun e) = record {
   digits = false;

@@ -17,7 +17,8 @@ use Rattle.call_order.specs.Answers.{program_of}
 use Rattle.call_order.specs.Cycles.{HasNoCycle}
 use Rattle.seuss_run.specs.declared.words.Command.TheVariants as C
 use Rattle.seuss_run.specs.Stages.{◌>=>◌}
-use Rattle.seuss_run.specs.Verdicts.{Loaded, Running, IsVerdict, is_spelled, is_resolved, is_ordered, is_loaded}
+use Rattle.seuss_run.specs.Verdicts.{Loaded, Running, IsVerdict, is_spelled, is_resolved, is_ordered}
+use Rattle.seuss_run.specs.Verdicts.{is_loaded}
 
 -- a program, and a printable tree of it that passes every check
 pub record IsChecked (p : Program) : Type 0 where

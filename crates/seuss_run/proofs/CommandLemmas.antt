@@ -3,7 +3,9 @@ use Rattle.std.proofs.Common.{◌≡◌, ℕ, List, map, [], refl, sym, ◌∙�
 use Rattle.seuss_run.specs.declared.words.Command.{Command}
 use Rattle.seuss_run.specs.declared.words.Command.TheVariants as C
 use Rattle.seuss_run.specs.Commands.{IsCommand, HasNumbers, action_word}
-use Rattle.seuss_run.proofs.WordLemmas.{same_numbers, one_list, tight_not_matrix, tight_not_check, tight_not_print, matrix_not_check, matrix_not_print, check_not_print}
+use Rattle.seuss_run.proofs.WordLemmas.{same_numbers, one_list, tight_not_matrix, tight_not_check}
+use Rattle.seuss_run.proofs.WordLemmas.{tight_not_print, matrix_not_check, matrix_not_print}
+use Rattle.seuss_run.proofs.WordLemmas.{check_not_print}
 
 pub one_command : (words : List (List ℕ)) (c d : Command) → IsCommand words c → IsCommand words d → c ≡ d
 one_command words (C.Run r w b) (C.Run s v a) h k =

@@ -1,5 +1,7 @@
 -- Orders in which the attempts stand one after the other by their numbers, from 0.
-use Rattle.std.proofs.Common.{◌≡◌, ◌≢◌, ℕ, zero, suc, ◌+◌, ◌*◌, ◌/◌, ◌%◌, ◌<◌, ◌≤◌, ◌⊎◌, Bool, true, false, List, [], ◌∷◌, ◌++◌, length, get_or, sym, ap, ◌∙◌, refl, subst, inl, inr, ⊎_elim, arith}
+use Rattle.std.proofs.Common.{◌≡◌, ◌≢◌, ℕ, zero, suc, ◌+◌, ◌*◌, ◌/◌, ◌%◌, ◌<◌, ◌≤◌, ◌⊎◌, Bool, true, false}
+use Rattle.std.proofs.Common.{List, [], ◌∷◌, ◌++◌, length, get_or, sym, ap, ◌∙◌, refl, subst, inl, inr}
+use Rattle.std.proofs.Common.{⊎_elim, arith}
 use Rattle.std.proofs.Math.Nat.{div-mul-le_self, le-div_iff_mul-le}
 use Rattle.std.proofs.lemmas.List.{get_or_append_left, get_or-map, length-map, get_or_push, length_push}
 use Rattle.std.proofs.lemmas.List.Elements.{All-push}
@@ -121,7 +123,8 @@ pub adds_in_turn : (n attempt : ℕ) (before after : List Placed) (stopped : Boo
     length before ≡ attempt → Adds n attempt before after stopped → IsInTurn n after
 adds_in_turn n attempt before after stopped turn long a =
     subst (IsInTurn n) (sym a.last)
-    (in_turn_push n before a.placed turn (a.attempt_is ∙ sym long) (a.action_is ∙ ap (λ m. m % n) (sym long)))
+    (in_turn_push n before a.placed turn (a.attempt_is ∙ sym long)
+    (a.action_is ∙ ap (λ m. m % n) (sym long)))
 
 pub adds_length : (n attempt : ℕ) (before after : List Placed) (stopped : Bool) → length before ≡ attempt →
     Adds n attempt before after stopped → length after ≡ attempt + 1

@@ -1,5 +1,6 @@
 -- Bytes mean one thing for a command.
-use Rattle.std.proofs.Common.{◌≡◌, ℕ, zero, suc, ◌<◌, inl, inr, List, [], ◌∷◌, length, get_or, map, refl, sym, ap, ◌∙◌, subst, arith}
+use Rattle.std.proofs.Common.{◌≡◌, ℕ, zero, suc, ◌<◌, inl, inr, List, [], ◌∷◌, length, get_or, map, refl}
+use Rattle.std.proofs.Common.{sym, ap, ◌∙◌, subst, arith}
 use Rattle.std.specs.Prelude.{Ok, Err, Option, Some, IsNone}
 use Rattle.std.proofs.lemmas.Bool.{cases_order}
 use Rattle.seuss_program.specs.declared.tree.Tree.{Tree}
@@ -15,7 +16,10 @@ use Rattle.seuss_run.specs.declared.words.Command.{Command}
 use Rattle.seuss_run.specs.declared.words.Command.TheVariants as C
 use Rattle.seuss_run.specs.Commands.{action_word}
 use Rattle.seuss_run.specs.Stages.{IsOne}
-use Rattle.seuss_run.specs.Verdicts.{Printing, Checking, Comparing, Attempting, IsVerdict, is_split, is_spelled, is_resolved, has_no_cycle, is_ordered, has_input, is_certified, is_loaded, is_loaded_parts, has_tree_alone, is_short, are_actions, action_number}
+use Rattle.seuss_run.specs.Verdicts.{Printing, Checking, Comparing, Attempting, IsVerdict, is_split}
+use Rattle.seuss_run.specs.Verdicts.{is_spelled, is_resolved, has_no_cycle, is_ordered, has_input}
+use Rattle.seuss_run.specs.Verdicts.{is_certified, is_loaded, is_loaded_parts, has_tree_alone, is_short}
+use Rattle.seuss_run.specs.Verdicts.{are_actions, action_number}
 use Rattle.seuss_run.proofs.StageLemmas.{one_behind, one_makes, one_passes, one_first_of, one_second_of}
 use Rattle.seuss_run.proofs.VerdictLemmas.{one_read}
 

@@ -1,5 +1,6 @@
 -- What a command makes of loaded bytes.
-use Rattle.std.proofs.Common.{◌≡◌, ℕ, suc, Bool, false, ◌<◌, ◌≤◌, List, [], ◌∷◌, length, ◌⊎◌, inl, inr, refl, sym, ap, subst, arith, map}
+use Rattle.std.proofs.Common.{◌≡◌, ℕ, suc, Bool, false, ◌<◌, ◌≤◌, List, [], ◌∷◌, length, ◌⊎◌, inl, inr}
+use Rattle.std.proofs.Common.{refl, sym, ap, subst, arith, map}
 use Rattle.std.specs.Prelude.{Result, Ok, Err, IsErrAnd, Some, Any, IsNone, IsTrue}
 use Rattle.std.proofs.lemmas.Bool.{cases_lt}
 use Rattle.seuss_program.specs.declared.tree.Tree.{Tree}
@@ -18,7 +19,8 @@ use Rattle.seuss_run.specs.declared.answer.Answer.{Answer}
 use Rattle.seuss_run.specs.Commands.{action_word}
 use Rattle.seuss_run.specs.Runs.{status_of}
 use Rattle.seuss_run.specs.Stages.{Stage}
-use Rattle.seuss_run.specs.Verdicts.{Loaded, Printing, Checking, Comparing, Running, Attempting, IsVerdict, is_loaded, has_tree_alone, attempts_in, action_number}
+use Rattle.seuss_run.specs.Verdicts.{Loaded, Printing, Checking, Comparing, Running, Attempting, IsVerdict}
+use Rattle.seuss_run.specs.Verdicts.{is_loaded, has_tree_alone, attempts_in, action_number}
 use Rattle.seuss_run.specs.Loadings.{Meets, Performs, NamesActions}
 
 -- where the bytes aren't loaded, or memory is wanting, so it is

@@ -138,7 +138,8 @@ input_of text (R.CertificateUnclear n) fault = absurd fault
 input_of text R.Attempts fault = absurd fault
 input_of text R.Action fault = absurd fault
 
-module _ (law : (text : List ℕ) (a b : Result (List ℤ) InputRefusal) → ReadsInput a text → ReadsInput b text →
+module _ (law : (text : List ℕ) (a b : Result (List ℤ) InputRefusal) → ReadsInput a text →
+    ReadsInput b text →
     (a ≡ Err I.Memory → ⊥) → (b ≡ Err I.Memory → ⊥) → a ≡ b) where
   read_refusals : (text : List ℕ) (why cause : Refused) → IsRefusedInput text why →
       IsRefusedInput text cause → why ≡ cause

@@ -1,5 +1,6 @@
 -- The names of a tree that is printable are names.
-use Rattle.std.proofs.Common.{◌≡◌, ℕ, zero, suc, pos, ◌<◌, Bool, true, false, if◌then◌else◌, List, [], ◌∷◌, ◌++◌, All, get_or, length, Some, None, refl, arith}
+use Rattle.std.proofs.Common.{◌≡◌, ℕ, zero, suc, pos, ◌<◌, Bool, true, false, if◌then◌else◌, List, [], ◌∷◌}
+use Rattle.std.proofs.Common.{◌++◌, All, get_or, length, Some, None, refl, arith}
 use Rattle.std.specs.List.{flat_map}
 use Rattle.std.proofs.lemmas.List.Elements.{All-head, All-tail}
 use Rattle.seuss_text.specs.Words.{kind_of, is_letters, is_digits, is_among, signs, keywords}
@@ -13,7 +14,8 @@ use Rattle.seuss_program.specs.declared.tree.Cat.{Cat}
 use Rattle.seuss_program.specs.declared.tree.BoxDecl.{BoxDecl}
 use Rattle.seuss_program.specs.declared.tree.Tree.{Tree}
 use Rattle.seuss_parser.specs.declared.symbol.Symbol.TheVariants as S
-use Rattle.seuss_print.specs.Items.{Item, Token, Space, LineFeed, tokens_in, line, symbol, named, number, perhaps_bracketed}
+use Rattle.seuss_print.specs.Items.{Item, Token, Space, LineFeed, tokens_in, line, symbol, named, number}
+use Rattle.seuss_print.specs.Items.{perhaps_bracketed}
 use Rattle.seuss_print.specs.Canonical.{variable, form_items, procedure, semi, given, cat, box, program}
 use Rattle.seuss_print.specs.Printable.{IsWithinLimit, IsPrintable}
 use Rattle.report_text.specs.Names.{IsName, is_name_text}

@@ -1,5 +1,6 @@
 -- One read after another.
-use Rattle.std.proofs.Common.{ℕ, List, [], ◌++◌, take, drop, Option, None, Some, sym, ap, ◌∙◌, refl, subst, append_assoc}
+use Rattle.std.proofs.Common.{ℕ, List, [], ◌++◌, take, drop, Option, None, Some, sym, ap, ◌∙◌, refl, subst}
+use Rattle.std.proofs.Common.{append_assoc}
 use Rattle.std.proofs.lemmas.List.{take-append-drop}
 use Rattle.std.specs.Prelude.{Result, Ok, Err, IfSome, OnErr}
 use Rattle.seuss_base.specs.Sources.{Moves}

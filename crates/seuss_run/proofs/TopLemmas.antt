@@ -1,5 +1,6 @@
 -- What words and bytes end with: which statuses exclude each other.
-use Rattle.std.proofs.Common.{◌≡◌, ℕ, ◌<◌, ◌≤◌, ◌⊎◌, Bool, false, List, ◌++◌, length, length-append, inl, inr, ⊎_elim, sym, ap, subst, arith, refl, Option}
+use Rattle.std.proofs.Common.{◌≡◌, ℕ, ◌<◌, ◌≤◌, ◌⊎◌, Bool, false, List, ◌++◌, length, length-append, inl}
+use Rattle.std.proofs.Common.{inr, ⊎_elim, sym, ap, subst, arith, refl, Option}
 use Rattle.std.specs.Prelude.{Result, Ok, Err, Some, None, IfOk, IsTrue}
 use Rattle.std.proofs.lemmas.Bool.{cases_lt}
 use Rattle.report_text.specs.declared.refusals.Refused.{Refused}
@@ -13,10 +14,12 @@ use Rattle.seuss_run.specs.Readings.{Takes, TakesAll}
 use Rattle.seuss_run.specs.Stages.{Stage, ◌>=>◌}
 use Rattle.seuss_run.specs.Verdicts.{IsVerdict, Task, is_read, is_split, is_loaded_parts, tree_of}
 use Rattle.seuss_run.proofs.CommandLemmas.{one_command}
-use Rattle.seuss_run.specs.Answers.{Answers, Ends, EndsDone, EndsRefused, HasNoCommand, IsAny, IsStill, Knows, WereRead}
+use Rattle.seuss_run.specs.Answers.{Answers, Ends, EndsDone, EndsRefused, HasNoCommand, IsAny, IsStill}
+use Rattle.seuss_run.specs.Answers.{Knows, WereRead}
 
 -- more bytes than are read are refused, whatever the command
-is_long : (command : Command) (bytes : List ℕ) → 2097156 < length bytes → IsVerdict command bytes (Err R.Long)
+is_long : (command : Command) (bytes : List ℕ) → 2097156 < length bytes →
+    IsVerdict command bytes (Err R.Long)
 unfolding IsVerdict
 is_long (C.Run rounds workers budget) bytes long = inl (inl (long, refl))
 is_long (C.Tight actions) bytes long = inl (inl (long, refl))
@@ -155,7 +158,8 @@ module _ (one : (c : Command) (bytes : List ℕ) (verdict other : Result Task Re
       (arith, many.0, front_read before now ends.bytes told tells many.1)) accepted)
       ends.read
 
--- the words are a command that waits, or one that doesn't; those that don't begin with `run` wait for nothing
+-- the words are a command that waits, or one that doesn't; those that don't begin with `run` wait for
+-- nothing
 still_command : (c : Command) (words : List (List ℕ)) → IsCommand words c → (BeginsRun words → ⊥) → IsStill c
 still_command (C.Run rounds workers budget) words spelled no_run =
     absurd (no_run (spelled.numbers, spelled.spelled))

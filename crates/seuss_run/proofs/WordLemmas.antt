@@ -1,5 +1,7 @@
 -- What the words of `run` and of `tight` say, and that they say it in one way.
-use Rattle.std.proofs.Common.{◌≡◌, ℕ, zero, suc, ◌+◌, ◌^◌, ◌<◌, ◌≤◌, ◌≢◌, inl, inr, Bool, true, false, List, [], ◌∷◌, ◌++◌, length, map, get_or, refl, sym, ap, ◌∙◌, subst, append_assoc, drop, drop-cons, arith}
+use Rattle.std.proofs.Common.{◌≡◌, ℕ, zero, suc, ◌+◌, ◌^◌, ◌<◌, ◌≤◌, ◌≢◌, inl, inr, Bool, true, false, List}
+use Rattle.std.proofs.Common.{[], ◌∷◌, ◌++◌, length, map, get_or, refl, sym, ap, ◌∙◌, subst, append_assoc}
+use Rattle.std.proofs.Common.{drop, drop-cons, arith}
 use Rattle.std.specs.Prelude.{codes, decimal, All, Option, Some, None, IfNone, IsTrue, ◌↔◌, if◌then◌else◌}
 use Rattle.std.specs.Bool.{Decides}
 use Rattle.std.specs.List.{list_all, AllByRecursion}
@@ -146,7 +148,8 @@ name_bytes (b ∷ bs) h = grind arith
 pub bytes_no_point : (word : List ℕ) → list_all is_name_byte word ≡ true →
     (i : ℕ) → i < length word → get_or word i 0 ≢ 46
 bytes_no_point [] h i within = absurd (omega arith)
-bytes_no_point (b ∷ bs) h zero within = no_point b (and_parts (is_name_byte b) (list_all is_name_byte bs) h).0
+bytes_no_point (b ∷ bs) h zero within = no_point b
+    (and_parts (is_name_byte b) (list_all is_name_byte bs) h).0
 bytes_no_point (b ∷ bs) h (suc i) within =
     bytes_no_point bs (and_parts (is_name_byte b) (list_all is_name_byte bs) h).1 i (omega arith)
 

@@ -14,7 +14,8 @@ use Rattle.seuss_run.specs.Commands.{IsCommand}
 use Rattle.seuss_run.specs.Matrices.{IsMatrix}
 use Rattle.seuss_run.specs.Readings.{Takes, TakesAll}
 use Rattle.seuss_run.specs.Runs.{IsReport, status_of}
-use Rattle.seuss_run.specs.Verdicts.{Task, Printing, Checking, Comparing, Running, Attempting, Loaded, IsVerdict}
+use Rattle.seuss_run.specs.Verdicts.{Task, Printing, Checking, Comparing, Running, Attempting, Loaded}
+use Rattle.seuss_run.specs.Verdicts.{IsVerdict}
 
 -- the budget of an attempt where the words name none
 abbrev pub default_budget : ℕ
@@ -98,7 +99,8 @@ pub record EndsDone (Known : Command → Type 0) (words : List (List ℕ)) (befo
   pub done : Does command task status text
 
 -- A status below 5 and the whole text that is written with it.
-abbrev pub Ends : (Command → Type 0) → List (List ℕ) → Option (List ℕ) → Option (List ℕ) → ℕ → List ℕ → Type 0
+abbrev pub Ends : (Command → Type 0) → List (List ℕ) → Option (List ℕ) → Option (List ℕ) → ℕ → List ℕ →
+    Type 0
 Ends Known words before now status text =
     ((status ≡ 4) × HasNoCommand Known words × (text ≡ usage))
     ⊎ (((status ≡ 3) × EndsRefused Known words before now text)

@@ -9,7 +9,8 @@ Stage A B = A → Result B Refused → Type 0
 
 -- a check, and behind it, where it passes, the next one
 abbrev pub ◌>=>◌ : {A B C : Type 0} → Stage A B → Stage B C → Stage A C
-(◌>=>◌) {B = B} first next given (Ok made) = (between : B) × first given (Ok between) × next between (Ok made)
+(◌>=>◌) {B = B} first next given (Ok made) = (between : B) × first given (Ok between)
+    × next between (Ok made)
 (◌>=>◌) {B = B} first next given (Err why) =
     first given (Err why) ⊎ ((between : B) × first given (Ok between) × next between (Err why))
 

@@ -1,5 +1,6 @@
 -- What the bytes that were read mean for a command: a task, or the first reason to refuse them.
-use Rattle.std.specs.Prelude.{◌≡◌, ℕ, ◌*◌, ◌<◌, ◌≤◌, max, ℤ, List, map, length, Option, Some, Result, Ok, Err, Any, IsNone}
+use Rattle.std.specs.Prelude.{◌≡◌, ℕ, ◌*◌, ◌<◌, ◌≤◌, max, ℤ, List, map, length, Option, Some, Result, Ok}
+use Rattle.std.specs.Prelude.{Err, Any, IsNone}
 use Rattle.std.specs.List.{position_from}
 use Rattle.std.specs.Str.{bytes_eq}
 use Rattle.seuss_text.specs.Rows.{AreTokens}

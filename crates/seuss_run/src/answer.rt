@@ -117,7 +117,8 @@ fn certified_levels(alloc: Global, certificates: &[Certificate]) -> Result<Items
     Ok(levels)
 }
 
-/// Prints at which level each certificate of a program holds, and how far each action is safe beside each other one.
+/// Prints at which level each certificate of a program holds, and how far each action is safe beside each
+/// other one.
 fn levels(alloc: Global, job: &Job) -> Result<Answer, Memory>
     requires keeps { Keeps job.now.program }
     requires few { length job.now.program.actions ≤ 256 }

@@ -7,7 +7,8 @@ ghost use Rattle.seuss_run.specs.declared.words.Command.TheVariants.{Run as RunO
 
 /// Bytes mean one thing for a command: one task, or one reason to refuse them.
 pub fn one_verdict()
-    ensures { (c : Ordered) (bytes : List ℕ) (one other : Result Task Reason) → IsVerdict c bytes one → IsVerdict c bytes other →
+    ensures { (c : Ordered) (bytes : List ℕ) (one other : Result Task Reason) → IsVerdict c bytes one →
+        IsVerdict c bytes other →
         one ≡ other }
 {
     seuss_text::one_fault();
@@ -19,14 +20,16 @@ pub fn one_verdict()
     crate::split::one_split();
 }
 
-/// The text of a run of accepted bytes tells the order of its attempts, and the boxes that it leaves: there is one
-/// lawful order of which it is the report.
+/// The text of a run of accepted bytes tells the order of its attempts, and the boxes that it leaves: there
+/// is one lawful order of which it is the report.
 pub fn text_tells_order()
-    ensures order { (rounds workers budget : ℕ) (bytes : List ℕ) (given : Loaded) (status other : ℕ) (text : List ℕ) →
+    ensures order { (rounds workers budget : ℕ) (bytes : List ℕ) (given : Loaded) (status other : ℕ)
+        (text : List ℕ) →
         IsVerdict (RunOf rounds workers budget) bytes (Ok (Running given)) →
         (one : IsReport given.0 given.1 rounds budget status text) →
         (two : IsReport given.0 given.1 rounds budget other text) → one.order ≡ two.order }
-    ensures boxes { (rounds workers budget : ℕ) (bytes : List ℕ) (given : Loaded) (status other : ℕ) (text : List ℕ) →
+    ensures boxes { (rounds workers budget : ℕ) (bytes : List ℕ) (given : Loaded) (status other : ℕ)
+        (text : List ℕ) →
         IsVerdict (RunOf rounds workers budget) bytes (Ok (Running given)) →
         (one : IsReport given.0 given.1 rounds budget status text) →
         (two : IsReport given.0 given.1 rounds budget other text) → one.state ≡ two.state }

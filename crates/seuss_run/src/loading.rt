@@ -1,7 +1,9 @@
 ghost use Rattle.std.specs.Prelude.{◌≤◌, length, IfOk};
 ghost use Rattle.seuss_run.specs.Loadings.{Meets};
 ghost use Rattle.compat_matrix.specs.Certificates.{AreCertificates};
-ghost use Rattle.seuss_run.specs.Verdicts.{has_tokens, has_tree, is_spelled, is_resolved, is_ordered, has_input, is_certified, is_loaded, is_loaded_parts, has_tree_alone};
+ghost use Rattle.seuss_run.specs.Verdicts.{has_tokens, has_tree, is_spelled, is_resolved, is_ordered};
+ghost use Rattle.seuss_run.specs.Verdicts.{has_input};
+ghost use Rattle.seuss_run.specs.Verdicts.{is_certified, is_loaded, is_loaded_parts, has_tree_alone};
 ghost use Rattle.seuss_run.specs.Stages.{◌>=>◌};
 ghost use Rattle.seuss_print.specs.Printable.{IsPrintable};
 ghost use Rattle.seuss_program.specs.Keeping.{Keeps};

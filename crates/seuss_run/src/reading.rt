@@ -1,4 +1,6 @@
-ghost use Rattle.std.specs.Prelude.{◌≡◌, ℕ, ◌<◌, ◌≤◌, List, [], ◌++◌, length, IfSome, Err, IfOk, OnOk, OnErr, IfErr, IsErrOf};
+ghost use Rattle.std.specs.Prelude.{◌≡◌, ℕ, ◌<◌, ◌≤◌, List, [], ◌++◌, length, IfSome, Err, IfOk, OnOk};
+ghost use Rattle.std.specs.Prelude.{OnErr};
+ghost use Rattle.std.specs.Prelude.{IfErr, IsErrOf};
 ghost use Rattle.seuss_base.specs.Faults.{Rose};
 ghost use Rattle.seuss_run.specs.Readings.{Takes, TakesAll, TakesSome, TakesMore};
 ghost use Rattle.seuss_run.specs.declared.reading.ReadRefusal.TheVariants.{Memory};
@@ -32,7 +34,8 @@ impl From<AllocError> for ReadRefusal {
 
 /// Reads one piece to the end of the bytes, and answers how long it is. 0 is the end.
 fn read_piece<R: Source>(source: &mut R, bytes: &mut Vec<u8>) -> Result<usize, ReadRefusal>
-    ensures ok { IfOk result (λ n. (piece : List ℕ) × (length piece ≡ n) × (bytes.new.items ≡ bytes.old.items ++ piece)
+    ensures ok { IfOk result
+        (λ n. (piece : List ℕ) × (length piece ≡ n) × (bytes.new.items ≡ bytes.old.items ++ piece)
         × Takes (R.left source.old) (R.left source.new) piece) }
     ensures end { IfOk result (λ n. n ≡ 0 → IfSome (R.left source.old) (λ left. left ≡ [])) }
     ensures short { IfOk result (λ n. n ≤ PIECE) }
@@ -55,7 +58,8 @@ fn read_piece<R: Source>(source: &mut R, bytes: &mut Vec<u8>) -> Result<usize, R
 pub fn read_all<R: Source>(alloc: Global, source: &mut R) -> Result<List<u8>, ReadRefusal>
     ensures all { IfOk result (λ bytes. TakesAll (R.left source.old) (R.left source.new) bytes) }
     ensures within { IfOk result (λ bytes. length bytes ≤ MOST_BYTES) }
-    ensures too_long { IsErrOf result ReadRefusal.TooLong → TakesMore MOST_BYTES (R.left source.old) (R.left source.new) }
+    ensures too_long { IsErrOf result ReadRefusal.TooLong →
+        TakesMore MOST_BYTES (R.left source.old) (R.left source.new) }
     ensures fault { IsErrOf result ReadRefusal.Fault → Rose (R.faults source.old) (R.faults source.new) }
     ensures some { OnErr result (TakesSome (R.left source.old) (R.left source.new)) }
     ensures counted { R.faults source.old ≤ R.faults source.new }

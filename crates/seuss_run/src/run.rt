@@ -42,8 +42,10 @@ fn attempt_next(
     requires small { budget ≤ 1000000 }
     requires some { 0 < length program.now.actions }
     requires few { length program.now.actions ≤ 256 }
-    ensures adds { IfOk result (Adds (length program.now.actions) attempt run.old.order.list run.new.order.list) }
-    ensures tight { OnOk result ((start : Boxes) → IsTight program.now start budget run.old.order.list run.old.state →
+    ensures adds { IfOk result
+        (Adds (length program.now.actions) attempt run.old.order.list run.new.order.list) }
+    ensures tight { OnOk result
+        ((start : Boxes) → IsTight program.now start budget run.old.order.list run.old.state →
         IsTight program.now start budget run.new.order.list run.new.state) }
 {
     let action = (attempt % program.actions.len()) as u32;
@@ -69,7 +71,8 @@ pub(crate) fn run_rounds(
     requires small { budget ≤ 1000000 }
     requires few { length program.now.actions ≤ 256 }
     ensures lawful { IfOk result (λ r. IsLawful (length program.now.actions) rounds r.order.list) }
-    ensures tight { IfOk result (λ r. IsTight program.now (initial program.now input.now) budget r.order.list r.state) }
+    ensures tight { IfOk result
+        (λ r. IsTight program.now (initial program.now input.now) budget r.order.list r.state) }
 {
     let code = compile(alloc, program)?;
     let mut run = Run {

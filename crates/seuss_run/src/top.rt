@@ -1,7 +1,11 @@
-ghost use Rattle.std.specs.Prelude.{◌≡◌, ℕ, Bool, false, true, ◌≤◌, ◌⊎◌, List, [], map, string_bytes, Ok, Err, Some, IfOk, IsErrOf, IsTrue, ◌↔◌};
+ghost use Rattle.std.specs.Prelude.{◌≡◌, ℕ, Bool, false, true, ◌≤◌, ◌⊎◌, List, [], map, string_bytes, Ok};
+ghost use Rattle.std.specs.Prelude.{Err};
+ghost use Rattle.std.specs.Prelude.{Some, IfOk, IsErrOf, IsTrue, ◌↔◌};
 ghost use Rattle.seuss_base.specs.Faults.{Rose};
 ghost use Rattle.seuss_base.specs.Sinks.{Adds as Writes};
-ghost use Rattle.seuss_run.specs.Answers.{Answers, Ends, EndsDone, EndsRefused, HasNoCommand, IsAny, IsStill, Knows, WereRead, usage};
+ghost use Rattle.seuss_run.specs.Answers.{Answers, Ends, EndsDone, EndsRefused, HasNoCommand, IsAny};
+ghost use Rattle.seuss_run.specs.Answers.{IsStill};
+ghost use Rattle.seuss_run.specs.Answers.{Knows, WereRead, usage};
 ghost use Rattle.seuss_run.specs.Commands.{IsCommand};
 ghost use Rattle.seuss_run.specs.Verdicts.{IsVerdict, Task};
 ghost use Rattle.seuss_run.specs.Writings.{AddsFront};
@@ -56,7 +60,8 @@ fn answer_command<R: Source>(
     source: &mut R,
 ) -> Result<Answer, Stop>
     requires { (words : List (List ℕ)) × IsCommand words command.now }
-    ensures answers { IfOk result (λ a. (bytes : List ℕ) × WereRead (R.left source.old) (R.left source.new) bytes
+    ensures answers { IfOk result
+        (λ a. (bytes : List ℕ) × WereRead (R.left source.old) (R.left source.new) bytes
         × Answers command.now bytes a.status a.text) }
     ensures fault { IsErrOf result Stop.Fault → Rose (R.faults source.old) (R.faults source.new) }
 {
@@ -88,7 +93,9 @@ fn answer<R: Source>(
     all: bool,
     source: &mut R,
 ) -> Result<Answer, Stop>
-    ensures ends { IfOk result (λ a. Ends (Knows all) (map string_bytes words.now) (R.left source.old) (R.left source.new) a.status a.text) }
+    ensures ends { IfOk result
+        (λ a. Ends (Knows all) (map string_bytes words.now) (R.left source.old) (R.left source.new) a.status
+        a.text) }
     ensures untouched { IfOk result (λ a. a.status ≡ 4 → source.new ≡ source.old) }
     ensures fault { IsErrOf result Stop.Fault → Rose (R.faults source.old) (R.faults source.new) }
     ensures command { IsErrOf result Stop.Fault → HasNoCommand (Knows all) (map string_bytes words.now) → ⊥ }
@@ -108,15 +115,20 @@ fn serve<R: Source, W: Sink>(
     sink: &mut W,
 ) -> u8
     ensures within { result ≤ 7 }
-    ensures usage { result ≡ 4 → HasNoCommand (Knows all) (map string_bytes words.now) × (source.new ≡ source.old)
+    ensures usage { result ≡ 4 → HasNoCommand (Knows all) (map string_bytes words.now)
+        × (source.new ≡ source.old)
         × Writes (W.written sink.old) (W.written sink.new) usage }
-    ensures refused { result ≡ 3 → (text : List ℕ) × EndsRefused (Knows all) (map string_bytes words.now) (R.left source.old) (R.left source.new) text
+    ensures refused { result ≡ 3 → (text : List ℕ)
+        × EndsRefused (Knows all) (map string_bytes words.now) (R.left source.old) (R.left source.new) text
         × Writes (W.written sink.old) (W.written sink.new) text }
-    ensures done { result ≤ 2 → (text : List ℕ) × EndsDone (Knows all) (map string_bytes words.now) (R.left source.old) (R.left source.new) result text
+    ensures done { result ≤ 2 → (text : List ℕ) × EndsDone (Knows all) (map string_bytes words.now)
+        (R.left source.old) (R.left source.new) result text
         × Writes (W.written sink.old) (W.written sink.new) text }
-    ensures read_fault { result ≡ 5 → Rose (R.faults source.old) (R.faults source.new) × (sink.new ≡ sink.old)
+    ensures read_fault { result ≡ 5 → Rose (R.faults source.old) (R.faults source.new)
+        × (sink.new ≡ sink.old)
         × (HasNoCommand (Knows all) (map string_bytes words.now) → ⊥) }
-    ensures write_fault { result ≡ 6 → Rose (W.faults sink.old) (W.faults sink.new) × (status : ℕ) × (text : List ℕ)
+    ensures write_fault { result ≡ 6 → Rose (W.faults sink.old) (W.faults sink.new) × (status : ℕ)
+        × (text : List ℕ)
         × Ends (Knows all) (map string_bytes words.now) (R.left source.old) (R.left source.new) status text
         × AddsFront (W.written sink.old) (W.written sink.new) text }
     ensures memory { result ≡ 7 → sink.new ≡ sink.old }
@@ -148,26 +160,33 @@ pub fn seuss_still<R: Source, W: Sink>(
     ensures within { result ≤ 7 }
 
     // What was written is the whole text of the command, with the status of `Does`.
-    ensures done { result ≤ 2 → (text : List ℕ) × EndsDone IsStill (map string_bytes words.now) (R.left source.old) (R.left source.new) result text
+    ensures done { result ≤ 2 → (text : List ℕ) × EndsDone IsStill (map string_bytes words.now)
+        (R.left source.old) (R.left source.new) result text
         × Writes (W.written sink.old) (W.written sink.new) text }
-    ensures complete { (c : Ordered) (bytes : List ℕ) (task : Task) → IsStill c → IsCommand (map string_bytes words.now) c →
+    ensures complete { (c : Ordered) (bytes : List ℕ) (task : Task) → IsStill c →
+        IsCommand (map string_bytes words.now) c →
         R.left source.old ≡ Some bytes → IsVerdict c bytes (Ok task) → (result ≤ 2) ⊎ (5 ≤ result) }
 
     // The bytes are refused at the first check that fails, and the line of the refusal was written.
-    ensures refused { result ≡ 3 → (text : List ℕ) × EndsRefused IsStill (map string_bytes words.now) (R.left source.old) (R.left source.new) text
+    ensures refused { result ≡ 3 → (text : List ℕ)
+        × EndsRefused IsStill (map string_bytes words.now) (R.left source.old) (R.left source.new) text
         × Writes (W.written sink.old) (W.written sink.new) text }
-    ensures refused_exactly { (c : Ordered) (bytes : List ℕ) (why : Reason) → IsStill c → IsCommand (map string_bytes words.now) c →
+    ensures refused_exactly { (c : Ordered) (bytes : List ℕ) (why : Reason) → IsStill c →
+        IsCommand (map string_bytes words.now) c →
         R.left source.old ≡ Some bytes → IsVerdict c bytes (Err why) → (result ≡ 3) ⊎ (5 ≤ result) }
 
     // The words are none of these commands: nothing was read.
-    ensures usage { result ≡ 4 → HasNoCommand IsStill (map string_bytes words.now) × (source.new ≡ source.old)
+    ensures usage { result ≡ 4 → HasNoCommand IsStill (map string_bytes words.now)
+        × (source.new ≡ source.old)
         × Writes (W.written sink.old) (W.written sink.new) usage }
     ensures usage_exactly { HasNoCommand IsStill (map string_bytes words.now) → (result ≡ 4) ⊎ (6 ≤ result) }
 
     // A fault is answered only where its count rose. Nothing was written, or a front of the text.
-    ensures read_fault { result ≡ 5 → Rose (R.faults source.old) (R.faults source.new) × (sink.new ≡ sink.old)
+    ensures read_fault { result ≡ 5 → Rose (R.faults source.old) (R.faults source.new)
+        × (sink.new ≡ sink.old)
         × (HasNoCommand IsStill (map string_bytes words.now) → ⊥) }
-    ensures write_fault { result ≡ 6 → Rose (W.faults sink.old) (W.faults sink.new) × (status : ℕ) × (text : List ℕ)
+    ensures write_fault { result ≡ 6 → Rose (W.faults sink.old) (W.faults sink.new) × (status : ℕ)
+        × (text : List ℕ)
         × Ends IsStill (map string_bytes words.now) (R.left source.old) (R.left source.new) status text
         × AddsFront (W.written sink.old) (W.written sink.new) text }
     ensures memory { result ≡ 7 → sink.new ≡ sink.old }
@@ -191,17 +210,21 @@ pub fn seuss<H: Threads + Wait + Sync, R: Source, W: Sink, G: Gate + Sync>(
 ) -> u8
     ensures within { result ≤ 7 }
 
-    // The headline: what a run wrote is the report of a lawful order of attempts, whose actions, executed one
-    // at a time in that order, give the printed outcomes and leave exactly the printed boxes.
-    ensures done { result ≤ 2 → (text : List ℕ) × EndsDone IsAny (map string_bytes words.now) (R.left source.old) (R.left source.new) result text
+    // The headline: what a run wrote is the report of a lawful order of attempts, whose actions, executed
+    // one at a time in that order, give the printed outcomes and leave exactly the printed boxes.
+    ensures done { result ≤ 2 → (text : List ℕ) × EndsDone IsAny (map string_bytes words.now)
+        (R.left source.old) (R.left source.new) result text
         × Writes (W.written sink.old) (W.written sink.new) text }
-    ensures complete { (c : Ordered) (bytes : List ℕ) (task : Task) → IsCommand (map string_bytes words.now) c →
+    ensures complete { (c : Ordered) (bytes : List ℕ) (task : Task) →
+        IsCommand (map string_bytes words.now) c →
         R.left source.old ≡ Some bytes → IsVerdict c bytes (Ok task) → (result ≤ 2) ⊎ (5 ≤ result) }
 
     // The bytes are refused at the first check that fails, and the line of the refusal was written.
-    ensures refused { result ≡ 3 → (text : List ℕ) × EndsRefused IsAny (map string_bytes words.now) (R.left source.old) (R.left source.new) text
+    ensures refused { result ≡ 3 → (text : List ℕ)
+        × EndsRefused IsAny (map string_bytes words.now) (R.left source.old) (R.left source.new) text
         × Writes (W.written sink.old) (W.written sink.new) text }
-    ensures refused_exactly { (c : Ordered) (bytes : List ℕ) (why : Reason) → IsCommand (map string_bytes words.now) c →
+    ensures refused_exactly { (c : Ordered) (bytes : List ℕ) (why : Reason) →
+        IsCommand (map string_bytes words.now) c →
         R.left source.old ≡ Some bytes → IsVerdict c bytes (Err why) → (result ≡ 3) ⊎ (5 ≤ result) }
 
     // The words are no command: nothing was read.
@@ -210,8 +233,10 @@ pub fn seuss<H: Threads + Wait + Sync, R: Source, W: Sink, G: Gate + Sync>(
     ensures usage_exactly { HasNoCommand IsAny (map string_bytes words.now) → (result ≡ 4) ⊎ (6 ≤ result) }
 
     // A fault is answered only where its count rose. Nothing was written, or a front of the text.
-    ensures read_fault { result ≡ 5 → Rose (R.faults source.old) (R.faults source.new) × (sink.new ≡ sink.old) }
-    ensures write_fault { result ≡ 6 → Rose (W.faults sink.old) (W.faults sink.new) × (status : ℕ) × (text : List ℕ)
+    ensures read_fault { result ≡ 5 → Rose (R.faults source.old) (R.faults source.new)
+        × (sink.new ≡ sink.old) }
+    ensures write_fault { result ≡ 6 → Rose (W.faults sink.old) (W.faults sink.new) × (status : ℕ)
+        × (text : List ℕ)
         × Ends IsAny (map string_bytes words.now) (R.left source.old) (R.left source.new) status text
         × AddsFront (W.written sink.old) (W.written sink.new) text }
     ensures memory { result ≡ 7 → sink.new ≡ sink.old }

@@ -1,4 +1,6 @@
-ghost use Rattle.std.specs.Prelude.{◌≡◌, ℕ, ◌<◌, ◌^◌, List, map, string_bytes, decimal, codes, [], ◌∷◌, IfOk, IfSome, IfNone, IsTrue, ◌↔◌, MatchOption};
+ghost use Rattle.std.specs.Prelude.{◌≡◌, ℕ, ◌<◌, ◌^◌, List, map, string_bytes, decimal, codes, [], ◌∷◌};
+ghost use Rattle.std.specs.Prelude.{IfOk};
+ghost use Rattle.std.specs.Prelude.{IfSome, IfNone, IsTrue, ◌↔◌, MatchOption};
 ghost use Rattle.seuss_run.specs.Commands.{IsCommand, HasNumbers, AreNames, BeginsRun, action_word};
 ghost use Rattle.seuss_run.specs.declared.words.Command.{Command};
 
@@ -41,7 +43,8 @@ const MOST_ACTIONS: usize = 10_000;
 
 /// The number whose decimal text a word is: no sign, no leading zero.
 fn number_of(word: &str) -> Option<u32>
-    ensures { MatchOption result ((n : ℕ) → n < 2 ^ 32 → word.now ≡ decimal n → ⊥) (λ n. word.now ≡ decimal n) }
+    ensures { MatchOption result ((n : ℕ) → n < 2 ^ 32 → word.now ≡ decimal n → ⊥)
+        (λ n. word.now ≡ decimal n) }
 {
     let Ok(n) = word.parse::<u32>() else {
         return None;

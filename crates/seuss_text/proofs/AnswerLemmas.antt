@@ -9,7 +9,8 @@ use Rattle.seuss_text.specs.declared.refusal.TextRefusal.{TextRefusal}
 use Rattle.seuss_text.specs.declared.refusal.TextRefusal.TheVariants.{BadByte, Range, TooLong, Memory}
 use Rattle.seuss_text.specs.declared.token.Token.{Token}
 use Rattle.seuss_text.specs.declared.token.Tokens.{Tokens}
-use Rattle.seuss_text.proofs.RowLemmas.{row_rises, tokens_same, bad_byte_same, tokens_no_bad_byte, tokens_no_range, bad_byte_no_range, range_same}
+use Rattle.seuss_text.proofs.RowLemmas.{row_rises, tokens_same, bad_byte_same, tokens_no_bad_byte}
+use Rattle.seuss_text.proofs.RowLemmas.{tokens_no_range, bad_byte_no_range, range_same}
 
 -- the tokens that are answered rise
 pub answer_rises : (text : List ℕ) (answer : Result Tokens TextRefusal) → Reads text answer →

@@ -1,5 +1,7 @@
 -- The reader's loop: where it stands, and what its next step makes of that.
-use Rattle.std.proofs.Common.{◌≡◌, ℕ, ◌-◌, ◌<◌, ◌≤◌, List, [], ◌∷◌, ◌++◌, length, take, drop, refl, sym, ap, ◌∙◌, subst, length-append, length-take-le, take-append-drop, arith, cond, eqb, Some, None, Ok, Err}
+use Rattle.std.proofs.Common.{◌≡◌, ℕ, ◌-◌, ◌<◌, ◌≤◌, List, [], ◌∷◌, ◌++◌, length, take, drop, refl, sym, ap}
+use Rattle.std.proofs.Common.{◌∙◌, subst, length-append, length-take-le, take-append-drop, arith, cond, eqb}
+use Rattle.std.proofs.Common.{Some, None, Ok, Err}
 use Rattle.std.proofs.lemmas.List.{take_at, drop_at, take_rest}
 use Rattle.std.specs.Prelude.{Option, Result}
 use Rattle.std.proofs.lemmas.List.Elements.{All-push}

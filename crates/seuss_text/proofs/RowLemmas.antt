@@ -1,5 +1,7 @@
 -- Rows of tokens: what they pass, and that a text has one reading.
-use Rattle.std.proofs.Common.{◌≡◌, ℕ, zero, suc, ◌-◌, ◌<◌, ◌≤◌, ◌⊎◌, List, [], ◌∷◌, ◌++◌, length, take, get_or, refl, sym, ap, ◌∙◌, subst, inl, inr, append_assoc, append-nil, length-append, arith, Some}
+use Rattle.std.proofs.Common.{◌≡◌, ℕ, zero, suc, ◌-◌, ◌<◌, ◌≤◌, ◌⊎◌, List, [], ◌∷◌, ◌++◌, length, take}
+use Rattle.std.proofs.Common.{get_or, refl, sym, ap, ◌∙◌, subst, inl, inr, append_assoc, append-nil}
+use Rattle.std.proofs.Common.{length-append, arith, Some}
 use Rattle.std.specs.Prelude.{All}
 use Rattle.std.proofs.lemmas.List.{get_or_at, get_or_append_left, same_from_push, take_at, drop_at}
 use Rattle.std.proofs.lemmas.List.Elements.{All-cons}
@@ -8,7 +10,8 @@ use Rattle.seuss_text.specs.Limits.{IsTokenInLimit, AreInLimits}
 use Rattle.seuss_text.specs.Rows.{Stands, Row, AreTokens, token_text, RiseFrom}
 use Rattle.seuss_text.specs.Refusals.{HasBadByte, BadByteAt, RangeAt}
 use Rattle.seuss_text.specs.declared.token.Token.{Token}
-use Rattle.seuss_text.proofs.NextLemmas.{word_begins, next_same, Stops, last_stops, bad_stops, bad_same, last_no_bad}
+use Rattle.seuss_text.proofs.NextLemmas.{word_begins, next_same, Stops, last_stops, bad_stops, bad_same}
+use Rattle.seuss_text.proofs.NextLemmas.{last_no_bad}
 
 -- what a row passes stands at the front of the text
 pub row_whole : (tokens : List Token) (before text passed rest : List ℕ) →

@@ -1,5 +1,6 @@
 -- What the parts of the reader find at the front of a text.
-use Rattle.std.specs.Prelude.{◌≡◌, ℕ, ◌≤◌, ◌==◌, Bool, true, false, not, if◌then◌else◌, List, [], ◌∷◌, ◌++◌, length, take, drop, Option, Some, None, Result, Ok, Err}
+use Rattle.std.specs.Prelude.{◌≡◌, ℕ, ◌≤◌, ◌==◌, Bool, true, false, not, if◌then◌else◌, List, [], ◌∷◌, ◌++◌}
+use Rattle.std.specs.Prelude.{length, take, drop, Option, Some, None, Result, Ok, Err}
 use Rattle.seuss_text.specs.Bytes.{line_feed, hash, is_white}
 use Rattle.seuss_text.specs.Gaps.{IsLastGap}
 use Rattle.seuss_text.specs.Limits.{IsInLimit, AreInLimits}

@@ -27,7 +27,8 @@ pub fn one_fault()
     ensures bad_byte { (text : List ℕ) (m n : ℕ) → BadByteAt text m → BadByteAt text n → m ≡ n }
     ensures range { (text : List ℕ) (m n : ℕ) → RangeAt text m → RangeAt text n → m ≡ n }
     ensures one_kind { (text : List ℕ) (m n : ℕ) → BadByteAt text m → RangeAt text n → ⊥ }
-    ensures no_bad_byte { (text : List ℕ) (tokens : List Word) (n : ℕ) → AreTokens text tokens → BadByteAt text n → ⊥ }
+    ensures no_bad_byte { (text : List ℕ) (tokens : List Word) (n : ℕ) → AreTokens text tokens →
+        BadByteAt text n → ⊥ }
     ensures no_range { (text : List ℕ) (tokens : List Word) (n : ℕ) → AreTokens text tokens →
         AreInLimits text tokens → RangeAt text n → ⊥ }
 {}

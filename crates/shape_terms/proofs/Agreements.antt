@@ -1,6 +1,7 @@
 -- Points that agree on the atoms, rests and bools of the first places, and points that are changed at one
 -- place.
-use Rattle.std.proofs.Common.{◌≡◌, ℕ, zero, suc, ◌+◌, ◌*◌, ◌-◌, ◌<◌, ◌≤◌, arith, Bool, true, false, ltb, eqb, List, [], ◌∷◌, length, get_or, refl, sym, ap, ◌∙◌}
+use Rattle.std.proofs.Common.{◌≡◌, ℕ, zero, suc, ◌+◌, ◌*◌, ◌-◌, ◌<◌, ◌≤◌, arith, Bool, true, false, ltb}
+use Rattle.std.proofs.Common.{eqb, List, [], ◌∷◌, length, get_or, refl, sym, ap, ◌∙◌}
 use Rattle.std.specs.Prelude.{All, if◌then◌else◌}
 use Rattle.std.specs.Int.{w64, int_wrap}
 use Rattle.std.specs.Int.RustNames.{FitsSigned}

@@ -9,7 +9,8 @@ use Rattle.shape_terms.specs.declared.num_form.NumForm.{NumForm}
 use Rattle.shape_terms.specs.Points.{TellsApart, alone, point_of}
 use Rattle.shape_terms.specs.Numbers.{coefficient, total, lengths_at, number}
 use Rattle.shape_terms.specs.Rows.{Differs, RowsDiffer, first_apart, part_at}
-use Rattle.shape_terms.proofs.PointLemmas.{zero_fits, atom_fits, rest_fits, alone_here, alone_there, length_here, length_there}
+use Rattle.shape_terms.proofs.PointLemmas.{zero_fits, atom_fits, rest_fits, alone_here, alone_there}
+use Rattle.shape_terms.proofs.PointLemmas.{length_here, length_there}
 use Rattle.shape_terms.proofs.TotalLemmas.{total_of_none, total_of_one, total_of_same}
 use Rattle.shape_terms.proofs.Wraps.{same_parts}
 

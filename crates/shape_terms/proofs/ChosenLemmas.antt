@@ -1,12 +1,15 @@
 -- Each value of a place is that of one of its cases, at a point that keeps the places before.
-use Rattle.std.proofs.Common.{◌≡◌, ℕ, zero, suc, ◌+◌, ◌*◌, ◌-◌, ◌<◌, ◌≤◌, inl, inr, arith, Bool, true, false, ltb, List, [], ◌∷◌, ◌++◌, length, take, drop, map, refl, sym, ap, ◌∙◌, subst}
+use Rattle.std.proofs.Common.{◌≡◌, ℕ, zero, suc, ◌+◌, ◌*◌, ◌-◌, ◌<◌, ◌≤◌, inl, inr, arith, Bool, true}
+use Rattle.std.proofs.Common.{false, ltb, List, [], ◌∷◌, ◌++◌, length, take, drop, map, refl, sym, ap, ◌∙◌}
+use Rattle.std.proofs.Common.{subst}
 use Rattle.std.specs.Prelude.{All}
 use Rattle.std.specs.List.{range_with_len}
 use Rattle.std.specs.Int.{w64, int_wrap}
 use Rattle.std.specs.Int.RustNames.{FitsSigned}
 use Rattle.std.proofs.lemmas.Int.{int_wrap_fits}
 use Rattle.std.proofs.lemmas.Bool.{ltb-true, ltb-false}
-use Rattle.std.proofs.lemmas.List.{append_assoc, take-append-drop, length-take-le, length-drop, get_or_append_left, get_or-append-add}
+use Rattle.std.proofs.lemmas.List.{append_assoc, take-append-drop, length-take-le, length-drop}
+use Rattle.std.proofs.lemmas.List.{get_or_append_left, get_or-append-add}
 use Rattle.std.proofs.lemmas.List.Elements.{All-nil, All-cons, All-take, All-drop, All-append}
 use Rattle.std.proofs.Math.IntN.{ℤ, pos}
 use Rattle.seuss_program.specs.declared.state.Value.{Value}
@@ -24,7 +27,8 @@ use Rattle.shape_terms.specs.Covers.{HasBits}
 use Rattle.shape_terms.specs.Cases.{atoms_from, exact_choice, long_choice, sequence_choices, var_choices}
 use Rattle.shape_terms.proofs.LengthLemmas.{number_of_atom}
 use Rattle.shape_terms.proofs.Members.{Within, within_left, within_right, within_map}
-use Rattle.shape_terms.proofs.Agreements.{Agree, with_place, agree_with, agree_self, numbers_with, atom_with, rest_with, truth_with, atoms_are, atoms_same}
+use Rattle.shape_terms.proofs.Agreements.{Agree, with_place, agree_with, agree_self, numbers_with}
+use Rattle.shape_terms.proofs.Agreements.{atom_with, rest_with, truth_with, atoms_are, atoms_same}
 
 -- a symbol that depends on the places below one alone
 abbrev pub IsLocal : ℕ → Symbol → Type 0

@@ -1,5 +1,6 @@
 -- Every state and all arguments are of a case.
-use Rattle.std.proofs.Common.{◌≡◌, ℕ, suc, ◌+◌, ◌≤◌, arith, true, false, ◌||◌, List, [], ◌∷◌, length, map, refl, ap, ◌∙◌, subst}
+use Rattle.std.proofs.Common.{◌≡◌, ℕ, suc, ◌+◌, ◌≤◌, arith, true, false, ◌||◌, List, [], ◌∷◌, length, map}
+use Rattle.std.proofs.Common.{refl, ap, ◌∙◌, subst}
 use Rattle.std.specs.Prelude.{All, Option, None, Some, option_and_then, slice_get}
 use Rattle.std.specs.Option.{option_map}
 use Rattle.std.proofs.lemmas.List.Elements.{All-head, All-tail}
@@ -20,7 +21,9 @@ use Rattle.shape_terms.specs.Points.{Point, HasNumbers, point_of}
 use Rattle.shape_terms.specs.Symbols.{IsOf}
 use Rattle.shape_terms.specs.Texts.{in_form}
 use Rattle.shape_terms.specs.Covers.{HasBits, AreOf}
-use Rattle.shape_terms.specs.Cases.{depth_of, vars_choices, param_choices, rows_of, cases_with, cases_from, cases_between, HasFew, pair_of, pair_at, Pair, choices_of_vars, choices_of_first, choices_of_second, cases_of}
+use Rattle.shape_terms.specs.Cases.{depth_of, vars_choices, param_choices, rows_of, cases_with, cases_from}
+use Rattle.shape_terms.specs.Cases.{cases_between, HasFew, pair_of, pair_at, Pair, choices_of_vars}
+use Rattle.shape_terms.specs.Cases.{choices_of_first, choices_of_second, cases_of}
 use Rattle.shape_terms.proofs.PointLemmas.{zero_fits}
 use Rattle.shape_terms.proofs.CaseLemmas.{few_depth, few_of_kept, found_in_all}
 use Rattle.shape_terms.proofs.Members.{Within, within_map, within_flat}

@@ -1,5 +1,7 @@
 -- A state and all arguments are of one case alone, and each point of a case gives a state and arguments.
-use Rattle.std.proofs.Common.{◌≡◌, ℕ, zero, suc, ◌*◌, ◌+◌, ◌<◌, ◌≤◌, ◌⊎◌, inl, inr, ⊎_elim, arith, Bool, true, false, ◌||◌, List, [], ◌∷◌, ◌++◌, length, map, refl, sym, ap, ◌∙◌, subst}
+use Rattle.std.proofs.Common.{◌≡◌, ℕ, zero, suc, ◌*◌, ◌+◌, ◌<◌, ◌≤◌, ◌⊎◌, inl, inr, ⊎_elim, arith, Bool}
+use Rattle.std.proofs.Common.{true, false, ◌||◌, List, [], ◌∷◌, ◌++◌, length, map, refl, sym, ap, ◌∙◌}
+use Rattle.std.proofs.Common.{subst}
 use Rattle.std.specs.Prelude.{All}
 use Rattle.std.specs.List.{range_with_len}
 use Rattle.std.specs.Int.{w64}
@@ -29,7 +31,10 @@ use Rattle.shape_terms.specs.Sequences.{numbers, items}
 use Rattle.shape_terms.specs.Symbols.{value_at, values_at, IsOf}
 use Rattle.shape_terms.specs.Texts.{in_form}
 use Rattle.shape_terms.specs.Covers.{HasBits, AreOf}
-use Rattle.shape_terms.specs.Cases.{atoms_from, exact_choice, long_choice, sequence_choices, depth_of, var_choices, vars_choices, param_choices, rows_of, cases_with, cases_from, Pair, choices_of_vars, choices_of_first, choices_of_second, cases_of}
+use Rattle.shape_terms.specs.Cases.{atoms_from, exact_choice, long_choice, sequence_choices, depth_of}
+use Rattle.shape_terms.specs.Cases.{var_choices, vars_choices, param_choices, rows_of, cases_with}
+use Rattle.shape_terms.specs.Cases.{cases_from, Pair, choices_of_vars, choices_of_first, choices_of_second}
+use Rattle.shape_terms.specs.Cases.{cases_of}
 use Rattle.shape_terms.proofs.LengthLemmas.{length_of_numbers, length_of_long}
 use Rattle.shape_terms.proofs.Members.{Within, within_append_back, within_map_back, within_flat_back}
 use Rattle.shape_terms.proofs.Picks.{Picks, picks_of_row, IsUnique, AreUnique, unique_picks}

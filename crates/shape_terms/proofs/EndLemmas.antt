@@ -1,5 +1,6 @@
 -- The last element of a list, and what is before it.
-use Rattle.std.proofs.Common.{◌≡◌, ◌≢◌, ℕ, ◌+◌, ◌-◌, ap, ◌∙◌, refl, arith, List, [], ◌∷◌, ◌++◌, length, take, Some, Ok, Err, get_or}
+use Rattle.std.proofs.Common.{◌≡◌, ◌≢◌, ℕ, ◌+◌, ◌-◌, ap, ◌∙◌, refl, arith, List, [], ◌∷◌, ◌++◌, length}
+use Rattle.std.proofs.Common.{take, Some, Ok, Err, get_or}
 use Rattle.std.specs.Prelude.{slice_get}
 use Rattle.std.proofs.lemmas.List.{get_or_at, take_at, length_push}
 use Rattle.std.proofs.Math.IntN.{ℤ, pos}

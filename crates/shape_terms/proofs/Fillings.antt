@@ -1,5 +1,6 @@
 -- Rows of symbols for rows of values.
-use Rattle.std.proofs.Common.{◌≡◌, ℕ, suc, ◌+◌, arith, inl, List, [], ◌∷◌, ◌++◌, length, map, refl, sym, ap, ◌∙◌, subst}
+use Rattle.std.proofs.Common.{◌≡◌, ℕ, suc, ◌+◌, arith, inl, List, [], ◌∷◌, ◌++◌, length, map, refl, sym, ap}
+use Rattle.std.proofs.Common.{◌∙◌, subst}
 use Rattle.std.proofs.lemmas.List.{append_assoc, append-nil, map_push}
 use Rattle.seuss_program.specs.declared.state.Value.{Value}
 use Rattle.shape_terms.specs.declared.symbol.Symbol.{Symbol}

@@ -1,10 +1,12 @@
 -- Where sequence forms differ.
-use Rattle.std.proofs.Common.{◌≡◌, ◌≢◌, ℕ, ◌+◌, ◌<◌, ◌≤◌, ap, sym, subst, ◌∙◌, refl, arith, Bool, true, false, List, [], ◌∷◌, ◌++◌, length, take, get_or, Option, None, Some, eqb}
+use Rattle.std.proofs.Common.{◌≡◌, ◌≢◌, ℕ, ◌+◌, ◌<◌, ◌≤◌, ap, sym, subst, ◌∙◌, refl, arith, Bool, true}
+use Rattle.std.proofs.Common.{false, List, [], ◌∷◌, ◌++◌, length, take, get_or, Option, None, Some, eqb}
 use Rattle.std.specs.Prelude.{slice_get, if◌then◌else◌}
 use Rattle.std.specs.Option.{is_some}
 use Rattle.std.specs.Int.{w64}
 use Rattle.std.specs.Int.RustNames.{FitsSigned}
-use Rattle.std.proofs.lemmas.List.{get_or-map, get_or_at, get_or_append_left, append_assoc, append_cancel_left, take_at, take_all, take_more_same}
+use Rattle.std.proofs.lemmas.List.{get_or-map, get_or_at, get_or_append_left, append_assoc}
+use Rattle.std.proofs.lemmas.List.{append_cancel_left, take_at, take_all, take_more_same}
 use Rattle.std.proofs.lemmas.Bool.{ne_eqb, eq-eqb}
 use Rattle.std.proofs.lemmas.Option.{get_or_from_slice_get}
 use Rattle.std.proofs.Math.IntN.{ℤ, pos}

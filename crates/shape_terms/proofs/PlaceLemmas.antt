@@ -1,5 +1,6 @@
 -- What `at` means at every point.
-use Rattle.std.proofs.Common.{◌≡◌, ℕ, zero, suc, ap, sym, subst, ◌∙◌, refl, Bool, true, false, List, [], ◌∷◌, ◌++◌, Option, None, Some, Result, Ok, Err}
+use Rattle.std.proofs.Common.{◌≡◌, ℕ, zero, suc, ap, sym, subst, ◌∙◌, refl, Bool, true, false, List, []}
+use Rattle.std.proofs.Common.{◌∷◌, ◌++◌, Option, None, Some, Result, Ok, Err}
 use Rattle.std.specs.Prelude.{slice_get, nat_lt, if◌then◌else◌}
 use Rattle.std.specs.Option.{option_map}
 use Rattle.std.proofs.lemmas.Option.{slice_get-map}

@@ -1,5 +1,6 @@
 -- How many rows and cases there are.
-use Rattle.std.proofs.Common.{◌≡◌, ℕ, ◌+◌, ◌*◌, ◌≤◌, ◌↔◌, arith, Bool, true, false, ◌||◌, List, [], ◌∷◌, ◌++◌, length, take, map, None, sym, ap, ◌∙◌, subst}
+use Rattle.std.proofs.Common.{◌≡◌, ℕ, ◌+◌, ◌*◌, ◌≤◌, ◌↔◌, arith, Bool, true, false, ◌||◌, List, [], ◌∷◌}
+use Rattle.std.proofs.Common.{◌++◌, length, take, map, None, sym, ap, ◌∙◌, subst}
 use Rattle.std.specs.List.{flat_map, range_with_len}
 use Rattle.std.proofs.Math.Nat.{mul_assoc, suc-mul}
 use Rattle.std.proofs.lemmas.List.{length-append, length-map, map-append}
@@ -13,7 +14,10 @@ use Rattle.seuss_program.specs.declared.tree.Hint.{Hint}
 use Rattle.shape_terms.specs.declared.symbol.Symbol.{Symbol}
 use Rattle.shape_terms.specs.declared.case.Case.{Case}
 use Rattle.shape_terms.specs.Texts.{in_form}
-use Rattle.shape_terms.specs.Cases.{exact_choice, long_choice, sequence_choices, depth_of, var_choices, vars_choices, param_choices, rows_before, rows_after, rows_of, first_above, cases_with, cases_from, cases_between, Pair, choices_of_vars, choices_of_first, choices_of_second, cases_of}
+use Rattle.shape_terms.specs.Cases.{exact_choice, long_choice, sequence_choices, depth_of, var_choices}
+use Rattle.shape_terms.specs.Cases.{vars_choices, param_choices, rows_before, rows_after, rows_of}
+use Rattle.shape_terms.specs.Cases.{first_above, cases_with, cases_from, cases_between, Pair}
+use Rattle.shape_terms.specs.Cases.{choices_of_vars, choices_of_first, choices_of_second, cases_of}
 use Rattle.shape_terms.specs.Counts.{product, counts_of}
 use Rattle.shape_terms.proofs.CountLemmas.{NoneZero, product_append, first_within, none_exactly}
 

@@ -1,5 +1,6 @@
 -- Rows of coefficients: their places, and what they are in total.
-use Rattle.std.proofs.Common.{◌≡◌, ℕ, zero, suc, ◌+◌, ◌<◌, ◌≤◌, max, take, ◌++◌, ap, sym, ◌∙◌, refl, arith, List, [], ◌∷◌, length}
+use Rattle.std.proofs.Common.{◌≡◌, ℕ, zero, suc, ◌+◌, ◌<◌, ◌≤◌, max, take, ◌++◌, ap, sym, ◌∙◌, refl, arith}
+use Rattle.std.proofs.Common.{List, [], ◌∷◌, length}
 use Rattle.std.specs.Int.{w64, int_wrap}
 use Rattle.std.proofs.lemmas.Int.{ints, int_wrap-mul_left}
 use Rattle.std.proofs.lemmas.List.{take_more, take_all}

@@ -1,5 +1,6 @@
 -- What the calls that take from a sequence mean at every point.
-use Rattle.std.proofs.Common.{◌≡◌, ℕ, suc, ◌+◌, ◌-◌, arith, ap, sym, subst, ◌∙◌, refl, List, [], ◌∷◌, ◌++◌, length, Result, Ok, Err}
+use Rattle.std.proofs.Common.{◌≡◌, ℕ, suc, ◌+◌, ◌-◌, arith, ap, sym, subst, ◌∙◌, refl, List, [], ◌∷◌, ◌++◌}
+use Rattle.std.proofs.Common.{length, Result, Ok, Err}
 use Rattle.std.specs.Prelude.{slice_get}
 use Rattle.std.proofs.lemmas.List.{append_assoc, map_push, take_at, length_push}
 use Rattle.seuss_program.specs.Values.{Evaluated, measure}
@@ -13,7 +14,8 @@ use Rattle.shape_terms.specs.declared.refusal.FormRefusal.{FormRefusal}
 use Rattle.shape_terms.specs.declared.refusal.FormRefusal.TheVariants as R
 use Rattle.shape_terms.specs.Points.{Point, point_of}
 use Rattle.shape_terms.specs.Numbers.{number}
-use Rattle.shape_terms.specs.Sequences.{numbers, items, first, last, rest, front, shown, taken, start_of, add, Answers, TakesNumber, TakesItems}
+use Rattle.shape_terms.specs.Sequences.{numbers, items, first, last, rest, front, shown, taken, start_of}
+use Rattle.shape_terms.specs.Sequences.{add, Answers, TakesNumber, TakesItems}
 use Rattle.shape_terms.proofs.PointLemmas.{zero_fits}
 use Rattle.shape_terms.proofs.EndLemmas.{by_last, got_last, last_of_push, front_of_push, some_within}
 

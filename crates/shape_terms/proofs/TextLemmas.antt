@@ -8,16 +8,21 @@ use Rattle.seuss_program.specs.declared.tree.Call.{Call}
 use Rattle.seuss_program.specs.declared.tree.Node.{Node, fold-Node, fold-roll-Node, map-Node, roll-Node}
 use Rattle.seuss_program.specs.declared.tree.Node.TheOpen as N
 use Rattle.seuss_program.specs.declared.tree.Node.TheVariants as NV
-use Rattle.seuss_program.specs.declared.tree.Node.TheVariants.{rolls-Int, rolls-Bool, rolls-Empty, rolls-Name, rolls-Neg, rolls-Not, rolls-Two, rolls-One}
+use Rattle.seuss_program.specs.declared.tree.Node.TheVariants.{rolls-Int, rolls-Bool, rolls-Empty}
+use Rattle.seuss_program.specs.declared.tree.Node.TheVariants.{rolls-Name, rolls-Neg, rolls-Not, rolls-Two}
+use Rattle.seuss_program.specs.declared.tree.Node.TheVariants.{rolls-One}
 use Rattle.seuss_program.specs.declared.tree.Node.TheOpen.{Node-F}
 use Rattle.seuss_program.specs.declared.tree.Expr.{Expr, fold_out-Expr}
-use Rattle.seuss_program.specs.declared.tree.Statement.{Statement, fold-Statement, fold-roll-Statement, map-Statement, roll-Statement}
+use Rattle.seuss_program.specs.declared.tree.Statement.{Statement, fold-Statement, fold-roll-Statement}
+use Rattle.seuss_program.specs.declared.tree.Statement.{map-Statement, roll-Statement}
 use Rattle.seuss_program.specs.declared.tree.Statement.TheVariants as SV
-use Rattle.seuss_program.specs.declared.tree.Statement.TheVariants.{rolls-Let, rolls-Assign, rolls-Call, rolls-If, rolls-While}
+use Rattle.seuss_program.specs.declared.tree.Statement.TheVariants.{rolls-Let, rolls-Assign, rolls-Call}
+use Rattle.seuss_program.specs.declared.tree.Statement.TheVariants.{rolls-If, rolls-While}
 use Rattle.seuss_program.specs.declared.tree.Statement.TheOpen as S
 use Rattle.seuss_program.specs.declared.tree.Statement.TheOpen.{Statement-F}
 use Rattle.seuss_program.specs.declared.tree.Statement.TheShapes.{former-Statement-If-1}
-use Rattle.shape_terms.specs.Texts.{some_true, is_variable, in_node, in_expression, in_call, in_step, in_statement, in_body}
+use Rattle.shape_terms.specs.Texts.{some_true, is_variable, in_node, in_expression, in_call, in_step}
+use Rattle.shape_terms.specs.Texts.{in_statement, in_body}
 
 module _ (v : ℕ) where
   in_node_of : Node Ref → Bool

@@ -2,7 +2,8 @@
 use Rattle.std.proofs.Common.{◌≡◌, ℕ, ◌+◌, ◌%◌, ◌^◌, ◌<◌, to_z, of_z, ap, sym, ◌∙◌, arith}
 use Rattle.std.specs.Int.{w64, int_wrap}
 use Rattle.std.specs.Int.RustNames.{FitsSigned}
-use Rattle.std.proofs.lemmas.Int.{ints, to_z-of_z, int_wrap_fits, int_wrap-add_left, int_wrap-add_right, int_wrap-mul_right, int_wrap-add_same}
+use Rattle.std.proofs.lemmas.Int.{ints, to_z-of_z, int_wrap_fits, int_wrap-add_left, int_wrap-add_right}
+use Rattle.std.proofs.lemmas.Int.{int_wrap-mul_right, int_wrap-add_same}
 use Rattle.std.proofs.Math.IntN.{ℤ, pos, neg_ℤ, ◌+ℤ◌, ◌*ℤ◌, +ℤ_comm}
 use Rattle.shape_terms.specs.Numbers.{with_times}
 

@@ -1,6 +1,8 @@
 -- The cases of a certificate, and how many they are. A place is a variable, a parameter of the first method
 -- or one of the second, in this order. Place v has the atoms 8v to 8v + 7, and the unknown rest v.
-use Rattle.std.specs.Prelude.{◌≡◌, ℕ, ◌+◌, ◌*◌, nat_lt, if◌then◌else◌, Bool, true, false, ◌&&◌, ◌||◌, not, List, [], ◌∷◌, ◌++◌, map, length, Option, None, Some, option_and_then, slice_get, Result, Ok, Err, All, ◌≤◌}
+use Rattle.std.specs.Prelude.{◌≡◌, ℕ, ◌+◌, ◌*◌, nat_lt, if◌then◌else◌, Bool, true, false, ◌&&◌, ◌||◌, not}
+use Rattle.std.specs.Prelude.{List, [], ◌∷◌, ◌++◌, map, length, Option, None, Some, option_and_then}
+use Rattle.std.specs.Prelude.{slice_get, Result, Ok, Err, All, ◌≤◌}
 use Rattle.std.specs.Option.{option_map}
 use Rattle.std.specs.List.{flat_map}
 use Rattle.std.specs.List.{range_with_len}

@@ -1,6 +1,7 @@
 -- A number form is a sum: a constant, and a coefficient for each atom and for the length of each unknown
 -- rest. Coefficients that aren't written are 0.
-use Rattle.std.specs.Prelude.{ℕ, suc, ℤ, pos, negsuc, ◌+ℤ◌, ◌*ℤ◌, List, [], ◌∷◌, ◌++◌, length, replicate, slice_index_or, Option, Some, None, Bool, true, ◌&&◌, if◌then◌else◌}
+use Rattle.std.specs.Prelude.{ℕ, suc, ℤ, pos, negsuc, ◌+ℤ◌, ◌*ℤ◌, List, [], ◌∷◌, ◌++◌, length, replicate}
+use Rattle.std.specs.Prelude.{slice_index_or, Option, Some, None, Bool, true, ◌&&◌, if◌then◌else◌}
 use Rattle.std.specs.Int.{w64, int_wrap}
 use Rattle.std.specs.Ordering.{int_eq}
 use Rattle.shape_terms.specs.declared.num_form.NumForm.{NumForm}

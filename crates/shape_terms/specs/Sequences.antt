@@ -1,5 +1,7 @@
 -- A sequence form is a list of number forms, or a list, an unknown rest and a list.
-use Rattle.std.specs.Prelude.{◌≡◌, ◌≢◌, ℕ, zero, suc, ℤ, pos, negsuc, ◌+◌, ◌-◌, nat_lt, List, [], ◌∷◌, ◌++◌, length, map, take, slice_get, Option, Some, None, Result, Ok, Err, true, if◌then◌else◌}
+use Rattle.std.specs.Prelude.{◌≡◌, ◌≢◌, ℕ, zero, suc, ℤ, pos, negsuc, ◌+◌, ◌-◌, nat_lt, List, [], ◌∷◌, ◌++◌}
+use Rattle.std.specs.Prelude.{length, map, take, slice_get, Option, Some, None, Result, Ok, Err, true}
+use Rattle.std.specs.Prelude.{if◌then◌else◌}
 use Rattle.std.specs.Int.{w64, int_wrap}
 use Rattle.seuss_base.specs.declared.outcome.Trap.TheVariants.{EmptySequence}
 use Rattle.seuss_program.specs.Values.{Evaluated, element}

@@ -3,7 +3,10 @@ ghost use Rattle.seuss_program.specs.declared.tree.Ref.{Ref};
 ghost use Rattle.seuss_program.specs.declared.tree.Hint.{Hint};
 ghost use Rattle.shape_terms.specs.Texts.{in_form, is_variable};
 ghost use Rattle.seuss_program.specs.declared.tree.Kind.TheVariants.{Int, Bool};
-ghost use Rattle.shape_terms.specs.Cases.{atoms_from as atoms_of, sequence_choices as sequence_by, depth_of as depth_by, same_side as same_side_as, var_choices as var_by, vars_choices as vars_by, param_choices as params_by};
+ghost use Rattle.shape_terms.specs.Cases.{atoms_from as atoms_of, sequence_choices as sequence_by};
+ghost use Rattle.shape_terms.specs.Cases.{depth_of as depth_by, same_side as same_side_as};
+ghost use Rattle.shape_terms.specs.Cases.{var_choices as var_by};
+ghost use Rattle.shape_terms.specs.Cases.{vars_choices as vars_by, param_choices as params_by};
 
 use crate::num_form::NumForm;
 use crate::seq_form::SeqForm;

@@ -12,13 +12,18 @@ ghost use Rattle.shape_terms.specs.Covers.{AreOf};
 ghost use Rattle.shape_terms.specs.Cases.{Pair, pair_at, cases_of, first_above};
 ghost use Rattle.shape_terms.specs.Counts.{product, counts_of, IsFirstAbove};
 
-/// Every state of a cat, with all arguments of both methods of a certificate, is of exactly one of its cases.
+/// Every state of a cat, with all arguments of both methods of a certificate, is of exactly one of its
+/// cases.
 pub fn each_state_is_of_one_case()
-    ensures some { (p : Program) (cat semi : ℕ) (pair : Pair) (state args others : List Value) → Keeps p → pair_at p cat semi ≡ Some pair →
-        AreOf (var_kinds pair.cat.vars) state → AreOf (param_kinds pair.first.params) args → AreOf (param_kinds pair.second.params) others →
-        (c : Case) × (at : Point) × Contains (cases_of pair) c × HasNumbers at × IsOf c at state args others }
+    ensures some { (p : Program) (cat semi : ℕ) (pair : Pair) (state args others : List Value) → Keeps p →
+        pair_at p cat semi ≡ Some pair →
+        AreOf (var_kinds pair.cat.vars) state → AreOf (param_kinds pair.first.params) args →
+        AreOf (param_kinds pair.second.params) others →
+        (c : Case) × (at : Point) × Contains (cases_of pair) c × HasNumbers at
+        × IsOf c at state args others }
     ensures one { (pair : Pair) (c d : Case) (at there : Point) (state args others : List Value) →
-        Contains (cases_of pair) c → Contains (cases_of pair) d → IsOf c at state args others → IsOf d there state args others → c ≡ d }
+        Contains (cases_of pair) c → Contains (cases_of pair) d → IsOf c at state args others →
+        IsOf d there state args others → c ≡ d }
 {}
 
 /// Each point of a case gives a state of the cat and arguments of both methods.
@@ -31,11 +36,15 @@ pub fn points_are_states()
         AreOf (param_kinds pair.second.params) (values_at c.second at) }
 {}
 
-/// A certificate has as many cases as the product of how many each variable and each parameter has. Where these are at
-/// most 4,096, no product of the first counts passes it; else the first one that does is at most the number of cases.
+/// A certificate has as many cases as the product of how many each variable and each parameter has. Where
+/// these are at most 4,096, no product of the first counts passes it; else the first one that does is at
+/// most the number of cases.
 pub fn too_many_exactly()
     ensures number { (pair : Pair) → length (cases_of pair) ≡ product (counts_of pair) }
-    ensures none { (pair : Pair) → (first_above 1 (counts_of pair) ≡ None) ↔ (length (cases_of pair) ≤ 4096) }
-    ensures first { (pair : Pair) (count : ℕ) → first_above 1 (counts_of pair) ≡ Some count → IsFirstAbove (counts_of pair) count }
-    ensures at_least { (pair : Pair) (count : ℕ) → first_above 1 (counts_of pair) ≡ Some count → count ≤ length (cases_of pair) }
+    ensures none { (pair : Pair) → (first_above 1 (counts_of pair) ≡ None) ↔
+        (length (cases_of pair) ≤ 4096) }
+    ensures first { (pair : Pair) (count : ℕ) → first_above 1 (counts_of pair) ≡ Some count →
+        IsFirstAbove (counts_of pair) count }
+    ensures at_least { (pair : Pair) (count : ℕ) → first_above 1 (counts_of pair) ≡ Some count →
+        count ≤ length (cases_of pair) }
 {}

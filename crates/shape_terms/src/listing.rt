@@ -3,7 +3,10 @@ ghost use Rattle.std.specs.Option.{option_copied};
 ghost use Rattle.seuss_program.specs.Keeping.{Keeps, method_at};
 ghost use Rattle.seuss_program.specs.declared.tree.Ref.{Ref};
 ghost use Rattle.seuss_program.specs.declared.tree.Hint.{Hint};
-ghost use Rattle.shape_terms.specs.Cases.{first_above as above_first, cases_with, cases_from, cases_between as between, Pair, pair_of, pair_at, AreCases, AreCasesOf, HasFew};
+ghost use Rattle.shape_terms.specs.Cases.{first_above as above_first, cases_with, cases_from};
+ghost use Rattle.shape_terms.specs.Cases.{cases_between as between, Pair, pair_of, pair_at, AreCases};
+ghost use Rattle.shape_terms.specs.Cases.{AreCasesOf};
+ghost use Rattle.shape_terms.specs.Cases.{HasFew};
 
 use crate::case::Case;
 use crate::choices::{param_choices, vars_choices};
@@ -147,7 +150,8 @@ fn cases_for(
     requires first { length first.now.params ≤ 32 }
     requires second { length second.now.params ≤ 32 }
     requires depths { All (λ (h : Hint Ref). h.depth ≤ 4) hints.now }
-    ensures { AreCases (record { cat = own.now; first = first.now; second = second.now; hints = hints.now }) result }
+    ensures { AreCases (record { cat = own.now; first = first.now; second = second.now; hints = hints.now })
+        result }
 {
     let count = own.vars.len() as u32;
     let vars = vars_choices(alloc, own.vars.as_slice(), first, second, hints)?;

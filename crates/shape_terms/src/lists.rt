@@ -1,7 +1,8 @@
 ghost use Rattle.std.specs.Prelude.{◌≡◌, ℕ, pos, ◌+◌, ◌++◌, ◌∷◌, [], length, take, IfOk};
 ghost use Rattle.std.specs.Int.{w64, int_wrap};
 ghost use Rattle.std.specs.Option.{option_copied};
-ghost use Rattle.shape_terms.specs.Sequences.{hidden as hidden_by, shown as shown_of, tail_of as tail_by, start_of as start_by, found as found_of, Answers};
+ghost use Rattle.shape_terms.specs.Sequences.{hidden as hidden_by, shown as shown_of, tail_of as tail_by};
+ghost use Rattle.shape_terms.specs.Sequences.{start_of as start_by, found as found_of, Answers};
 
 use crate::num_form::NumForm;
 use crate::refusal::FormRefusal;

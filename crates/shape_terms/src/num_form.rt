@@ -7,7 +7,9 @@ ghost use Rattle.seuss_program.specs.declared.tree.Fun.TheVariants.{Len};
 ghost use Rattle.seuss_program.specs.declared.state.Value.TheVariants.{Int};
 ghost use Rattle.shape_terms.specs.declared.apart.Apart.TheVariants.{Rest as AtRest};
 ghost use Rattle.shape_terms.specs.Points.{point_of, Point, HasNumbers, TellsApart};
-ghost use Rattle.shape_terms.specs.Numbers.{number, number as number_of, atom, rest_len, literal, plus, minus, forms_with, literal_of};
+ghost use Rattle.shape_terms.specs.Numbers.{number, number as number_of, atom, rest_len, literal, plus};
+ghost use Rattle.shape_terms.specs.Numbers.{minus};
+ghost use Rattle.shape_terms.specs.Numbers.{forms_with, literal_of};
 ghost use Rattle.shape_terms.specs.Rows.{Differs, SaysLiteral, part_at};
 
 use crate::apart::Apart;
@@ -28,7 +30,8 @@ impl NumForm {
     /// An atom, which stands for any number.
     pub fn atom(alloc: Global, number: u32) -> Result<NumForm, Memory>
         ensures form { IfOk result (λ form. form ≡ atom number) }
-        ensures value { IfOk result (λ form. (p : Point) → HasNumbers p → number_of form p ≡ p.atoms number) }
+        ensures value { IfOk result
+            (λ form. (p : Point) → HasNumbers p → number_of form p ≡ p.atoms number) }
     {
         Ok(NumForm {
             constant: 0,
@@ -40,7 +43,8 @@ impl NumForm {
     /// The length of an unknown rest.
     pub fn rest_len(alloc: Global, rest: u32) -> Result<NumForm, Memory>
         ensures form { IfOk result (λ form. form ≡ rest_len rest) }
-        ensures value { IfOk result (λ form. (p : Point) → measure Len (p.rests rest) ≡ Ok (Int (number_of form p))) }
+        ensures value { IfOk result
+            (λ form. (p : Point) → measure Len (p.rests rest) ≡ Ok (Int (number_of form p))) }
     {
         Ok(NumForm {
             constant: 0,
@@ -85,7 +89,8 @@ impl NumForm {
     pub fn minus(&self, alloc: Global, other: &NumForm) -> Result<NumForm, Memory>
         ensures form { IfOk result (λ difference. difference ≡ minus self.now other.now) }
         ensures value { IfOk result (λ difference. (p : Point) →
-            apply WrapMinus (Int (number self.now p)) (Int (number other.now p)) ≡ Ok (Int (number difference p))) }
+            apply WrapMinus (Int (number self.now p)) (Int (number other.now p))
+            ≡ Ok (Int (number difference p))) }
     {
         self.with_times(alloc, -1, other)
     }
@@ -151,7 +156,8 @@ impl NumForm {
     /// Whether the forms are equal at every point.
     pub fn same(&self, other: &NumForm) -> bool
         ensures equal { IsTrue result → (p : Point) → number self.now p ≡ number other.now p }
-        ensures only { ((p : Point) → HasNumbers p → number self.now p ≡ number other.now p) → IsTrue result }
+        ensures only { ((p : Point) → HasNumbers p → number self.now p ≡ number other.now p) →
+            IsTrue result }
     {
         self.tell_apart(other).is_none()
     }

@@ -1,6 +1,10 @@
-ghost use Rattle.std.specs.Prelude.{◌≡◌, ℕ, ℤ, pos, ◌+ℤ◌, ◌*ℤ◌, ◌++◌, ◌∷◌, [], replicate, slice_index_or, IfOk, MatchOption, ◌≢◌, Some, None, ◌&&◌, if◌then◌else◌};
+ghost use Rattle.std.specs.Prelude.{◌≡◌, ℕ, ℤ, pos, ◌+ℤ◌, ◌*ℤ◌, ◌++◌, ◌∷◌, [], replicate, slice_index_or};
+ghost use Rattle.std.specs.Prelude.{IfOk};
+ghost use Rattle.std.specs.Prelude.{MatchOption, ◌≢◌, Some, None, ◌&&◌, if◌then◌else◌};
 ghost use Rattle.std.specs.Int.{w64, int_wrap};
-ghost use Rattle.shape_terms.specs.Numbers.{coefficient as coefficient_of, unit as unit_of, with_times as times_of, rows_with as rows_of, is_zero as zero_of};
+ghost use Rattle.shape_terms.specs.Numbers.{coefficient as coefficient_of, unit as unit_of};
+ghost use Rattle.shape_terms.specs.Numbers.{with_times as times_of, rows_with as rows_of};
+ghost use Rattle.shape_terms.specs.Numbers.{is_zero as zero_of};
 ghost use Rattle.shape_terms.specs.Rows.{RowsDiffer, SaysZero, first_apart as apart_by};
 
 use crate::apart::Apart;

@@ -7,7 +7,9 @@ ghost use Rattle.seuss_program.specs.declared.state.Value.TheVariants.{Int, Seq}
 ghost use Rattle.shape_terms.specs.declared.shape.Shape.TheVariants.{Exact, Long};
 ghost use Rattle.shape_terms.specs.Points.{Point, HasNumbers, TellsApart};
 ghost use Rattle.shape_terms.specs.Numbers.{number};
-ghost use Rattle.shape_terms.specs.Sequences.{at_literal, items, least, first, last, rest, front, at, add, len, Answers, TakesNumber, TakesItems, TakesAt};
+ghost use Rattle.shape_terms.specs.Sequences.{at_literal, items, least, first, last, rest, front, at, add};
+ghost use Rattle.shape_terms.specs.Sequences.{len};
+ghost use Rattle.shape_terms.specs.Sequences.{Answers, TakesNumber, TakesItems, TakesAt};
 
 use crate::apart::Apart;
 use crate::num_form::NumForm;
@@ -96,7 +98,8 @@ impl SeqForm {
     }
 
     /// The form of `at`. It is refused as `MayBeEmpty` where the index isn't a number below each length that
-    /// the sequence may have, and as `NotShown` where the element is behind the beginning of an unknown rest.
+    /// the sequence may have, and as `NotShown` where the element is behind the beginning of an unknown
+    /// rest.
     pub fn at(&self, alloc: Global, index: &NumForm) -> Result<NumForm, FormRefusal>
         ensures form { Answers result (at self.now index.now) }
         ensures value { TakesAt self.now index.now result }

@@ -1,5 +1,9 @@
 ghost use Rattle.std.specs.Prelude.{◌≡◌, ◌++◌, ◌∷◌, [], nat_lt, Some, IfOk};
-ghost use Rattle.shape_terms.specs.Sequences.{at_literal as literal_place, least as least_of, first as first_of, last as last_of, rest as rest_of, front as front_of, add as add_to, len as len_of, Answers};
+ghost use Rattle.shape_terms.specs.Sequences.{at_literal as literal_place, least as least_of};
+ghost use Rattle.shape_terms.specs.Sequences.{first as first_of};
+ghost use Rattle.shape_terms.specs.Sequences.{last as last_of, rest as rest_of, front as front_of};
+ghost use Rattle.shape_terms.specs.Sequences.{add as add_to};
+ghost use Rattle.shape_terms.specs.Sequences.{len as len_of, Answers};
 
 use crate::lists;
 use crate::num_form::NumForm;

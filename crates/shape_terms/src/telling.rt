@@ -35,7 +35,8 @@ fn parts_apart(
 ) -> Option<Apart>
     requires fronts { length front.now ≡ length other_front.now }
     requires backs { length back.now ≡ length other_back.now }
-    ensures { (r : ℕ) → TellsApart (items (Long front.now r back.now)) (items (Long other_front.now r other_back.now)) result }
+    ensures { (r : ℕ) → TellsApart (items (Long front.now r back.now))
+        (items (Long other_front.now r other_back.now)) result }
 {
     let apart = lists_apart(front, other_front);
     if apart.is_some() {
@@ -76,7 +77,8 @@ fn rests_apart(
     other_back: &List<NumForm>,
 ) -> Option<Apart>
     requires { length front.now + length back.now ≡ length other_front.now + length other_back.now }
-    ensures { TellsApart (items (Long front.now rest back.now)) (items (Long other_front.now rest other_back.now)) result }
+    ensures { TellsApart (items (Long front.now rest back.now))
+        (items (Long other_front.now rest other_back.now)) result }
 {
     if front.len() < other_front.len() {
         return crossed_apart(front, rest, other_front);

@@ -1,5 +1,10 @@
 ghost use Rattle.std.specs.Prelude.{◌≡◌, ◌||◌};
-ghost use Rattle.shape_terms.specs.Texts.{is_variable as names, is_bound as bound_by, in_expression as expression_has, in_some as some_has, in_call as call_has, in_statement as statement_has, in_body as body_has, in_pre as pre_has, in_alternative as alternative_has, in_alternatives as alternatives_have, in_form as form_has};
+ghost use Rattle.shape_terms.specs.Texts.{is_variable as names, is_bound as bound_by};
+ghost use Rattle.shape_terms.specs.Texts.{in_expression as expression_has, in_some as some_has};
+ghost use Rattle.shape_terms.specs.Texts.{in_call as call_has, in_statement as statement_has};
+ghost use Rattle.shape_terms.specs.Texts.{in_body as body_has, in_pre as pre_has};
+ghost use Rattle.shape_terms.specs.Texts.{in_alternative as alternative_has};
+ghost use Rattle.shape_terms.specs.Texts.{in_alternatives as alternatives_have, in_form as form_has};
 
 use seuss_program::{Alternative, Call, Expr, Form, Node, Pre, Ref, Statement};
 

@@ -1,5 +1,6 @@
 -- What the notes and shares of a journal count together.
-use Rattle.std.proofs.Common.{◌≡◌, ℕ, ◌+◌, ◌<◌, List, [], ◌∷◌, ◌++◌, map, length, All, sum_by, count_by, cond, true, false, ◌==◌, Bool, refl, sym, ap, ◌∙◌, append_assoc, subst, arith}
+use Rattle.std.proofs.Common.{◌≡◌, ℕ, ◌+◌, ◌<◌, List, [], ◌∷◌, ◌++◌, map, length, All, sum_by, count_by}
+use Rattle.std.proofs.Common.{cond, true, false, ◌==◌, Bool, refl, sym, ap, ◌∙◌, append_assoc, subst, arith}
 use Rattle.std.specs.List.{AllZip}
 use Rattle.std.proofs.lemmas.List.{map-append, length-map}
 use Rattle.std.proofs.lemmas.List.Elements.{All-nil, All-cons, All-head, All-tail}
@@ -36,7 +37,14 @@ total_same f g same (x ∷ xs) =
 total_sum : {A : Type 0} (f g : A → ℕ) (xs : List A) → sum_by (λ x. f x + g x) xs ≡ sum_by f xs + sum_by g xs
 total_sum f g [] = refl
 total_sum f g (x ∷ xs) =
-    omega (arith, sum_by-cons f x xs, sum_by-cons g x xs, sum_by-cons (λ y. f y + g y) x xs, total_sum f g xs)
+    omega (
+      arith,
+      sum_by-cons f x xs,
+      sum_by-cons g x xs,
+      sum_by-cons (λ y. f y + g y) x xs,
+      total_sum f g
+          xs,
+    )
 
 -- the total of nothing
 total_none : {A : Type 0} (xs : List A) → sum_by (λ (x : A). 0) xs ≡ 0
@@ -63,7 +71,8 @@ module _ {E : Type 0} where
   total_of_makers notes makers [] once below = total_none notes
   total_of_makers notes makers (p ∷ log) once below =
       let here = once p.0 (All-head (λ (q : ℕ × E). q.0 < makers) p log below) in
-      let rest = total_of_makers notes makers log once (All-tail (λ (q : ℕ × E). q.0 < makers) p log below) in
+      let rest = total_of_makers notes makers log once (All-tail (λ (q : ℕ × E). q.0 < makers) p log below)
+      in
       let each = total_same (λ (n : NoteState E). length (own_entries n.maker (p ∷ log)))
       (λ n. cond (n.maker == p.0) 1 0 + length (own_entries n.maker log))
       (λ n. length-own_entries-cons n.maker p log) notes in

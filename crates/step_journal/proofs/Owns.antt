@@ -1,5 +1,7 @@
 -- The entries of one maker in a journal that grows, and the notes of it.
-use Rattle.std.proofs.Common.{◌≡◌, ◌≢◌, ℕ, ◌+◌, ◌<◌, ◌≤◌, List, [], ◌∷◌, ◌++◌, map, length, filter, All, cond, true, false, ◌==◌, Bool, refl, sym, ap, ◌∙◌, append-nil, append_assoc, length-append, subst, arith}
+use Rattle.std.proofs.Common.{◌≡◌, ◌≢◌, ℕ, ◌+◌, ◌<◌, ◌≤◌, List, [], ◌∷◌, ◌++◌, map, length, filter, All}
+use Rattle.std.proofs.Common.{cond, true, false, ◌==◌, Bool, refl, sym, ap, ◌∙◌, append-nil, append_assoc}
+use Rattle.std.proofs.Common.{length-append, subst, arith}
 use Rattle.std.proofs.lemmas.List.{map-append, length-map}
 use Rattle.std.proofs.lemmas.List.Elements.{filter-append, All-nil, All-cons, All-head, All-tail}
 use Rattle.std.proofs.lemmas.List.Sums.{sum_by-cons, count_by-le-length, length-filter}
@@ -110,4 +112,5 @@ module _ {E : Type 0} where
   pub count_longer : (log : Log E) (m : ℕ) (seen : Log E) (e : E) (count : ℕ) → IsNoteOf log m seen →
       count ≡ length (own_entries m seen) →
       count + 1 ≡ length (own_entries m (log ++ (m, e) ∷ []))
-  count_longer log m seen e count note is = omega (arith, ap length note.own, length-own_entries-push m log e)
+  count_longer log m seen e count note is = omega
+      (arith, ap length note.own, length-own_entries-push m log e)

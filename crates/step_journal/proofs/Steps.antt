@@ -1,5 +1,7 @@
 -- Each kind of step keeps the rule of a journal's table.
-use Rattle.std.proofs.Common.{◌≡◌, ◌≢◌, ℕ, ◌+◌, ◌%◌, ◌^◌, ◌<◌, ◌≤◌, List, [], ◌∷◌, ◌++◌, length, set, get_or, cond, ◌==◌, refl, sym, ap, ◌∙◌, subst, ⊎_elim, arith, le_refl, mod-eq_of_lt}
+use Rattle.std.proofs.Common.{◌≡◌, ◌≢◌, ℕ, ◌+◌, ◌%◌, ◌^◌, ◌<◌, ◌≤◌, List, [], ◌∷◌, ◌++◌, length, set}
+use Rattle.std.proofs.Common.{get_or, cond, ◌==◌, refl, sym, ap, ◌∙◌, subst, ⊎_elim, arith, le_refl}
+use Rattle.std.proofs.Common.{mod-eq_of_lt}
 use mathlib.Core.Option.{some}
 use lib.ListN.{get_elem?}
 use Rattle.std.proofs.lemmas.List.{length_push}
@@ -12,9 +14,12 @@ use Rattle.atomic_table.proofs.Lists.{at_set, at_snoc, set_again, set_else}
 use Rattle.step_journal.specs.declared.view.View.{View}
 use Rattle.step_journal.specs.declared.view.View.TheVariants.{Spent, Noted, Writer}
 use Rattle.step_journal.specs.Histories.{Log, IsNoteOf}
-use Rattle.step_journal.specs.Rules.{lists_of, writers_in, lists_in, own_lists_in, Fits, Stands, IsKept, IsSound, Tells, Looks, longer_by, Appends, with_next, next_note, without_last, last_note, with_list}
+use Rattle.step_journal.specs.Rules.{lists_of, writers_in, lists_in, own_lists_in, Fits, Stands, IsKept}
+use Rattle.step_journal.specs.Rules.{IsSound, Tells, Looks, longer_by, Appends, with_next, next_note}
+use Rattle.step_journal.specs.Rules.{without_last, last_note, with_list}
 use Rattle.step_journal.proofs.Totals.{total_set, total_one, total_two, total_others}
-use Rattle.step_journal.proofs.Owns.{note_longer, note_whole, olds_longer, once_below-suc, once_below-le, below_from_once}
+use Rattle.step_journal.proofs.Owns.{note_longer, note_whole, olds_longer, once_below-suc, once_below-le}
+use Rattle.step_journal.proofs.Owns.{below_from_once}
 
 -- what holds of each view, after a change of one
 fits_set : {V : Type 0} (P : V → Type 0) (views : List V) (id : ℕ) (w : V) → P w →
@@ -192,7 +197,8 @@ module _ {E : Type 0} (log : Log E) (olds : List (ℕ × Log E)) (given : ℕ) w
       }
 
   -- taking in a note keeps the rule
-  pub takes : {S : Type 0} (id other : ℕ) (v u : View E) (m : ℕ) (seen : Log E) → v ≡ Pen → u ≡ Noted m seen →
+  pub takes : {S : Type 0} (id other : ℕ) (v u : View E) (m : ℕ) (seen : Log E) → v ≡ Pen →
+      u ≡ Noted m seen →
       Joins (λ (s : State S (View E)). IsKept s.words s.views) id v other u (with_list v u) Spent
   takes {S} id other v u m seen is note s kept at apart there =
       let here : get_elem? s.views id ≡ some Pen = at ∙ ap some is in
@@ -285,7 +291,8 @@ module _ {E : Type 0} (log : Log E) (m : ℕ) (seen : Log E) (olds : List (ℕ �
       (s.fits j u there)
       in
       record {
-        word = subst (λ (ws : List ℕ). set ws 0 ((get_or ws 0 0 + 1) % 2 ^ 64) ≡ length new ∷ []) (sym s.word)
+        word = subst (λ (ws : List ℕ). set ws 0 ((get_or ws 0 0 + 1) % 2 ^ 64) ≡ length new ∷ [])
+            (sym s.word)
             (ap (λ (n : ℕ). n ∷ []) (mod-eq_of_lt room ∙ sym (length_push log (m, e))));
         one_writer = omega (arith, s.one_writer, total_set writers_in views id Before w at);
         fits = fits_set (Fits new given) views id w (

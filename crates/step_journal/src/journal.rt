@@ -77,7 +77,8 @@ impl<E: Drop> Journal<E> {
         ensures before { OnOk result (IsNoteOf self.old.log note.old.maker note.old.seen) }
         ensures share { OnOk result (share.new ≡ record share.old { count = share.old.count + 1 }) }
         ensures pair { IsPair note.new share.new }
-        ensures err { OnErr result ((self.new ≡ self.old) × (note.new ≡ note.old) × (share.new ≡ share.old)) }
+        ensures err { OnErr result
+            ((self.new ≡ self.old) × (note.new ≡ note.old) × (share.new ≡ share.old)) }
     {
         self.makers.reserve(1)?;
         self.entries.reserve(1)?;

@@ -1,5 +1,6 @@
 -- What the procedures of a program weigh.
-use Rattle.std.proofs.Common.{◌≡◌, ℕ, suc, zero, ◌+◌, ◌-◌, ◌*◌, ◌<◌, ◌≤◌, List, [], ◌∷◌, Option, None, Some, refl, sym, ap, arith}
+use Rattle.std.proofs.Common.{◌≡◌, ℕ, suc, zero, ◌+◌, ◌-◌, ◌*◌, ◌<◌, ◌≤◌, List, [], ◌∷◌, Option, None, Some}
+use Rattle.std.proofs.Common.{refl, sym, ap, arith}
 use Rattle.std.specs.Prelude.{slice_get, option_and_then}
 use Rattle.std.proofs.Math.Nat.{mul-suc}
 use Rattle.seuss_program.specs.declared.tree.Ref.{Ref}
@@ -39,22 +40,28 @@ counts f (y ∷ ys) zero x h =
 counts f (y ∷ ys) (suc i) x h = let below : f x ≤ sum_of f ys = counts f ys i x h in omega (arith, below)
 
 -- where there is a procedure of a box, there is its cat
-procedure_weight : (p : Program) (c : Option (Cat Ref)) (number : ℕ) (q : Proc Ref) → option_and_then (λ (c : Cat Ref). slice_get c.procs number) c ≡ Some q →
+procedure_weight : (p : Program) (c : Option (Cat Ref)) (number : ℕ) (q : Proc Ref) →
+    option_and_then (λ (c : Cat Ref). slice_get c.procs number) c ≡ Some q →
     (c' : Cat Ref) × (c ≡ Some c') × (slice_get c'.procs number ≡ Some q)
 procedure_weight p None number q h = absurd (cc)
 procedure_weight p (Some c) number q h = (c, refl, h)
 
-cat_counts : (p : Program) (b : Option BoxInfo) (c : Cat Ref) → option_and_then (λ (b : BoxInfo). slice_get p.cats b.cat) b ≡ Some c → cat_weight c ≤ sum_of cat_weight p.cats
+cat_counts : (p : Program) (b : Option BoxInfo) (c : Cat Ref) →
+    option_and_then (λ (b : BoxInfo). slice_get p.cats b.cat) b ≡ Some c →
+    cat_weight c ≤ sum_of cat_weight p.cats
 cat_counts p None c h = absurd (cc)
 cat_counts p (Some b) c h = counts cat_weight p.cats b.cat c h
 
 -- a procedure of a box weighs less than the program
-pub procedure_below : (p : Program) (box number : ℕ) (q : Proc Ref) → Some q ≡ procedure_of p box number → 2 * form_weight q.form + 6 < program_weight p
+pub procedure_below : (p : Program) (box number : ℕ) (q : Proc Ref) → Some q ≡ procedure_of p box number →
+    2 * form_weight q.form + 6 < program_weight p
 unfolding program_weight cat_weight
 procedure_below p box number q h =
     let found = procedure_weight p (cat_of p box) number q (sym h) in
-    let inside : form_weight q.form ≤ cat_weight found.0 = counts (λ (q : Proc Ref). form_weight q.form) (found.0).procs number q found.2 in
-    let above : cat_weight found.0 ≤ sum_of cat_weight p.cats = cat_counts p (slice_get p.boxes box) found.0 found.1 in
+    let inside : form_weight q.form ≤ cat_weight found.0 =
+    counts (λ (q : Proc Ref). form_weight q.form) (found.0).procs number q found.2 in
+    let above : cat_weight found.0 ≤ sum_of cat_weight p.cats =
+    cat_counts p (slice_get p.boxes box) found.0 found.1 in
     omega (arith, inside, above)
 
 -- one level less leaves room for what a procedure does

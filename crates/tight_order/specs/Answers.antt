@@ -35,9 +35,12 @@ Gives (Err S.Memory) e = Unit {0}
 
 -- a run of statements leaves this state, these slots and this budget, and is done or stopped
 abbrev pub Ends : Result (Unit {0}) Stop → Ran → State → Frame → Type 0
-Ends (Ok done) ran state frame = ran ≡ record { state = state; slots = frame.slots; budget = frame.budget; finish = B.Done }
-Ends (Err (S.Trapped t)) ran state frame = ran ≡ record { state = state; slots = frame.slots; budget = frame.budget; finish = B.Trapped t }
-Ends (Err S.Spent) ran state frame = ran ≡ record { state = state; slots = frame.slots; budget = frame.budget; finish = B.Spent }
+Ends (Ok done) ran state frame = ran ≡ record
+    { state = state; slots = frame.slots; budget = frame.budget; finish = B.Done }
+Ends (Err (S.Trapped t)) ran state frame = ran ≡ record
+    { state = state; slots = frame.slots; budget = frame.budget; finish = B.Trapped t }
+Ends (Err S.Spent) ran state frame = ran ≡ record
+    { state = state; slots = frame.slots; budget = frame.budget; finish = B.Spent }
 Ends (Err S.Memory) ran state frame = Unit {0}
 
 -- a cost of 1: it is paid, or nothing is left to pay it from
@@ -49,8 +52,12 @@ Pays (Err S.Memory) old new = ⊥
 
 -- an attempt leaves this state and this budget, and accepts, rejects or is stopped
 abbrev pub Replies : Result Reply Stop → Called → State → ℕ → Type 0
-Replies (Ok (R.Accepted result)) called state budget = called ≡ record { outcome = O.Accepted; result = result; state = state; budget = budget }
-Replies (Ok R.Rejected) called state budget = called ≡ record { outcome = O.Rejected; result = None; state = state; budget = budget }
-Replies (Err (S.Trapped t)) called state budget = called ≡ record { outcome = O.Trapped t; result = None; state = state; budget = budget }
-Replies (Err S.Spent) called state budget = called ≡ record { outcome = O.Spent; result = None; state = state; budget = budget }
+Replies (Ok (R.Accepted result)) called state budget =
+    called ≡ record { outcome = O.Accepted; result = result; state = state; budget = budget }
+Replies (Ok R.Rejected) called state budget = called
+    ≡ record { outcome = O.Rejected; result = None; state = state; budget = budget }
+Replies (Err (S.Trapped t)) called state budget =
+    called ≡ record { outcome = O.Trapped t; result = None; state = state; budget = budget }
+Replies (Err S.Spent) called state budget = called
+    ≡ record { outcome = O.Spent; result = None; state = state; budget = budget }
 Replies (Err S.Memory) called state budget = Unit {0}

@@ -18,9 +18,11 @@ pub fn attempt_action(
     budget: u64,
 ) -> Result<Outcome, Memory>
     ensures outcome { IfOk result (λ outcome.
-        outcome ≡ (action_attempt program.now (slice_get program.now.actions action) state.old budget).outcome) }
+        outcome ≡ (action_attempt program.now (slice_get program.now.actions action) state.old
+        budget).outcome) }
     ensures state { OnOk result
-        (state.new ≡ (action_attempt program.now (slice_get program.now.actions action) state.old budget).state) }
+        (state.new ≡ (action_attempt program.now (slice_get program.now.actions action) state.old
+        budget).state) }
 {
     let Some(info) = program.actions.get(action as u64) else {
         return Ok(Outcome::Rejected);

@@ -1,7 +1,9 @@
 ghost use Rattle.std.specs.Prelude.{◌≡◌, ◌≤◌};
 ghost use Rattle.seuss_program.specs.Programs.{vars_of};
 ghost use Rattle.seuss_program.specs.Bodies.{arguments as arguments_of};
-ghost use Rattle.seuss_program.specs.Attempts.{attempt as attempt_of, performed, choice, body_of, pre_called, chosen};
+ghost use Rattle.seuss_program.specs.Attempts.{attempt as attempt_of, performed, choice, body_of};
+ghost use Rattle.seuss_program.specs.Attempts.{pre_called};
+ghost use Rattle.seuss_program.specs.Attempts.{chosen};
 ghost use Rattle.tight_order.specs.Answers.{Replies};
 
 use crate::body::run_body;
@@ -27,7 +29,8 @@ pub fn attempt(
 ) -> Result<Reply, Stop>
     ensures budget { budget.new ≤ budget.old }
     ensures after { Replies result
-        (attempt_of place.now.program.now place.now.depth place.now.box_number number args state.old budget.old)
+        (attempt_of place.now.program.now place.now.depth place.now.box_number number args state.old
+        budget.old)
         state.new budget.new }
 {
     if place.depth == 0 {
@@ -61,7 +64,8 @@ fn perform(
 ) -> Result<Reply, Stop>
     ensures budget { frame.new.budget ≤ frame.old.budget }
     ensures after { Replies result
-        (performed place.now.program.now (attempt_of place.now.program.now place.now.depth) place.now.box_number
+        (performed place.now.program.now (attempt_of place.now.program.now place.now.depth)
+        place.now.box_number
         proc.now proc.now.form state.old frame.old.slots frame.old.budget)
         state.new frame.new.budget }
 {
@@ -145,7 +149,8 @@ fn prepare(
 ) -> Result<Reply, Stop>
     ensures budget { frame.new.budget ≤ frame.old.budget }
     ensures after { Replies result
-        (pre_called place.now.program.now (attempt_of place.now.program.now place.now.depth) place.now.box_number
+        (pre_called place.now.program.now (attempt_of place.now.program.now place.now.depth)
+        place.now.box_number
         proc.now alternative.now pre.now
         (arguments_of pre.now.call.args (vars_of state.old place.now.box_number) frame.old.slots)
         state.old frame.old.slots frame.old.budget)
@@ -179,7 +184,8 @@ fn finish(
 ) -> Result<Reply, Stop>
     ensures budget { frame.new.budget ≤ frame.old.budget }
     ensures after { Replies result
-        (body_of place.now.program.now (attempt_of place.now.program.now place.now.depth) place.now.box_number
+        (body_of place.now.program.now (attempt_of place.now.program.now place.now.depth)
+        place.now.box_number
         proc.now alternative.now state.old frame.old.slots frame.old.budget)
         state.new frame.new.budget }
 {

@@ -1,7 +1,9 @@
 ghost use Rattle.std.specs.Prelude.{◌≡◌, ◌≤◌};
 ghost use Rattle.seuss_program.specs.Programs.{vars_of};
 ghost use Rattle.seuss_program.specs.Values.{value as value_of};
-ghost use Rattle.seuss_program.specs.Bodies.{arguments as arguments_of, body as body_of, statement as meaning_of, looped, call_with};
+ghost use Rattle.seuss_program.specs.Bodies.{arguments as arguments_of, body as body_of};
+ghost use Rattle.seuss_program.specs.Bodies.{statement as meaning_of};
+ghost use Rattle.seuss_program.specs.Bodies.{looped, call_with};
 ghost use Rattle.seuss_program.specs.Attempts.{attempt as attempt_of};
 ghost use Rattle.tight_order.specs.Answers.{Ends};
 
@@ -25,7 +27,8 @@ pub fn run_body(
 ) -> Result<(), Stop>
     ensures budget { frame.new.budget ≤ frame.old.budget }
     ensures after { Ends result
-        (body_of place.now.program.now (attempt_of place.now.program.now place.now.depth) place.now.box_number
+        (body_of place.now.program.now (attempt_of place.now.program.now place.now.depth)
+        place.now.box_number
         statements.now state.old frame.old.slots frame.old.budget)
         state.new frame.new }
 {
@@ -46,7 +49,8 @@ fn run_statement(
 ) -> Result<(), Stop>
     ensures budget { frame.new.budget ≤ frame.old.budget }
     ensures after { Ends result
-        (meaning_of place.now.program.now (attempt_of place.now.program.now place.now.depth) place.now.box_number
+        (meaning_of place.now.program.now (attempt_of place.now.program.now place.now.depth)
+        place.now.box_number
         statement.now state.old frame.old.slots frame.old.budget)
         state.new frame.new }
 {
@@ -85,7 +89,8 @@ fn run_loop(
     ensures budget { frame.new.budget ≤ frame.old.budget }
     ensures after { Ends result
         (looped place.now.box_number frame.old.budget cond.now
-        (body_of place.now.program.now (attempt_of place.now.program.now place.now.depth) place.now.box_number turn.now)
+        (body_of place.now.program.now (attempt_of place.now.program.now place.now.depth)
+        place.now.box_number turn.now)
         state.old frame.old.slots frame.old.budget)
         state.new frame.new }
 {
@@ -108,7 +113,8 @@ fn run_call(
 ) -> Result<(), Stop>
     ensures budget { frame.new.budget ≤ frame.old.budget }
     ensures after { Ends result
-        (call_with place.now.program.now (attempt_of place.now.program.now place.now.depth) place.now.box_number name call.now
+        (call_with place.now.program.now (attempt_of place.now.program.now place.now.depth)
+        place.now.box_number name call.now
         (arguments_of call.now.args (vars_of state.old place.now.box_number) frame.old.slots)
         state.old frame.old.slots frame.old.budget)
         state.new frame.new }

@@ -2,7 +2,8 @@ ghost use Rattle.std.specs.Prelude.{◌≡◌, [], ◌++◌, pos, slice_index_or
 ghost use Rattle.seuss_program.specs.Values.{int_of};
 ghost use Rattle.seuss_program.specs.declared.state.Value.TheVariants.{Int};
 ghost use Rattle.std.specs.List.{flat_map};
-ghost use Rattle.seuss_program.specs.Attempts.{first_value as first_of, locals_of, bound_local, form_locals, entry_slots, result_of};
+ghost use Rattle.seuss_program.specs.Attempts.{first_value as first_of, locals_of, bound_local, form_locals};
+ghost use Rattle.seuss_program.specs.Attempts.{entry_slots, result_of};
 
 use crate::value::number;
 use seuss_base::{Ints, List, Memory};
@@ -62,7 +63,9 @@ fn add_bound(
     alloc: Global,
     slots: &mut List<Value>,
 ) -> Result<(), Memory>
-    ensures { OnOk result (slots.new ≡ slots.old ++ flat_map (λ a. bound_local a.pre ++ flat_map locals_of a.body) alternatives.now) }
+    ensures { OnOk result
+        (slots.new ≡ slots.old ++ flat_map (λ a. bound_local a.pre ++ flat_map locals_of a.body)
+        alternatives.now) }
 {
     for alternative in alternatives {
         add_name(&alternative.pre, slots)?;

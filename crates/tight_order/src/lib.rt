@@ -32,7 +32,8 @@ pub fn tight(
     order: &[u32],
     budget: u64,
 ) -> Result<Outcomes, Memory>
-    ensures outcomes { IfOk result (λ o. o.list ≡ (tight_run program.now order.now state.old budget).outcomes) }
+    ensures outcomes { IfOk result
+        (λ o. o.list ≡ (tight_run program.now order.now state.old budget).outcomes) }
     ensures state { OnOk result (state.new ≡ (tight_run program.now order.now state.old budget).state) }
 {
     let mut list = List::new(alloc);

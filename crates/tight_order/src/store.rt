@@ -1,8 +1,10 @@
 ghost use Rattle.std.specs.Prelude.{◌≡◌, slice_set, option_map, IfOk, OnOk};
 ghost use Rattle.std.specs.Option.{option_copied};
-ghost use Rattle.seuss_program.specs.Programs.{vars_of, with_var, procedure_of, target_of, method_of, level_of};
+ghost use Rattle.seuss_program.specs.Programs.{vars_of, with_var, procedure_of, target_of, method_of};
+ghost use Rattle.seuss_program.specs.Programs.{level_of};
 ghost use Rattle.seuss_program.specs.Values.{value as value_of};
-ghost use Rattle.seuss_program.specs.Bodies.{Done, assigned, evaluated_into, bound, arguments as arguments_of};
+ghost use Rattle.seuss_program.specs.Bodies.{Done, assigned, evaluated_into, bound};
+ghost use Rattle.seuss_program.specs.Bodies.{arguments as arguments_of};
 ghost use Rattle.tight_order.specs.Answers.{Evaluates, Gives, Ends};
 
 use crate::frame::Frame;

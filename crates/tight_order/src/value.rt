@@ -1,6 +1,8 @@
 ghost use Rattle.std.specs.Prelude.{◌≡◌, ℤ, neg_ℤ, ◌+ℤ◌, ◌-ℤ◌, [], ◌∷◌, ◌++◌, SomeIff, FitsSigned};
 ghost use Rattle.std.specs.Int.{w64, int_wrap};
-ghost use Rattle.seuss_program.specs.Values.{int_of, bool_of, seq_of, same, apply, quotient, remainder, element, measure, exact_length, named, part_of, exact};
+ghost use Rattle.seuss_program.specs.Values.{int_of, bool_of, seq_of, same, apply, quotient, remainder};
+ghost use Rattle.seuss_program.specs.Values.{element};
+ghost use Rattle.seuss_program.specs.Values.{measure, exact_length, named, part_of, exact};
 ghost use Rattle.seuss_program.specs.declared.state.Value.TheVariants.{Seq};
 ghost use Rattle.tight_order.specs.Answers.{Evaluates, HasValue};
 ghost use Rattle.tight_order.specs.Lazy.{decides};

@@ -13,6 +13,7 @@ returns-in-Ok c =
     record {
       noted = λ text.
           let is = c.in-Ok.ensures.updates.0 (record { ref_ptr = key.ref_ptr; now = text }) in
-          subst (λ x. found new text ≡ or_else (found old text) (cond (bytes_eq x text) (Some c.args.number) None))
+          subst (λ x. found new text ≡ or_else (found old text)
+          (cond (bytes_eq x text) (Some c.args.number) None))
           c.as_bytes-text.ensures (taken old (found new text) key.now text c.args.number none is);
     }

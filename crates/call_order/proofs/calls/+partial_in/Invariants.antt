@@ -6,5 +6,6 @@ use Rattle.call_order.proofs.calls.+partial_in.Given as goal
 
 abbrev pub invariant-partial_in_body-loop-statement : goal.invariant-partial_in_body-loop-statement
 invariant-partial_in_body-loop-statement l =
-    first_of (in_body (lines_of l.seen.cats.now l.seen.given.now (is_partial {N = Ref})) (drop l.statement-index l.statements))
+    first_of (in_body (lines_of l.seen.cats.now l.seen.given.now (is_partial {N = Ref}))
+    (drop l.statement-index l.statements))
     ≡ first_of (in_body (lines_of l.seen.cats.now l.seen.given.now (is_partial {N = Ref})) l.statements)

@@ -9,5 +9,9 @@ use Rattle.call_order.proofs.calls.partial_in_alternatives.Given as goal
 
 abbrev pub invariant-loop-part : goal.invariant-loop-part
 invariant-loop-part l =
-    first_of (flat_map (λ (a : Alternative Name). in_body (lines_of l.seen.cats.now l.seen.given.now (is_partial {N = Ref})) a.body) (drop l.part-index l.parts))
-    ≡ first_of (flat_map (λ (a : Alternative Name). in_body (lines_of l.seen.cats.now l.seen.given.now (is_partial {N = Ref})) a.body) l.parts)
+    first_of (flat_map (λ (a : Alternative Name). in_body
+    (lines_of l.seen.cats.now l.seen.given.now (is_partial {N = Ref})) a.body)
+    (drop l.part-index l.parts))
+    ≡ first_of (flat_map
+    (λ (a : Alternative Name). in_body
+    (lines_of l.seen.cats.now l.seen.given.now (is_partial {N = Ref})) a.body) l.parts)

@@ -9,5 +9,8 @@ use Rattle.call_order.proofs.calls.total_in_alternatives.Given as goal
 
 abbrev pub invariant-loop-part : goal.invariant-loop-part
 invariant-loop-part l =
-    first_of (flat_map (λ (a : Alternative Name). in_pre (lines_of l.seen.cats.now l.seen.given.now (is_total {N = Ref})) a.pre) (drop l.part-index l.parts))
-    ≡ first_of (flat_map (λ (a : Alternative Name). in_pre (lines_of l.seen.cats.now l.seen.given.now (is_total {N = Ref})) a.pre) l.parts)
+    first_of (flat_map (λ (a : Alternative Name). in_pre
+    (lines_of l.seen.cats.now l.seen.given.now (is_total {N = Ref})) a.pre) (drop l.part-index l.parts))
+    ≡ first_of (flat_map
+    (λ (a : Alternative Name). in_pre (lines_of l.seen.cats.now l.seen.given.now (is_total {N = Ref}))
+    a.pre) l.parts)

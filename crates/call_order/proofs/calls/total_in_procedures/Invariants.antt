@@ -6,5 +6,7 @@ use Rattle.call_order.proofs.calls.total_in_procedures.Given as goal
 
 abbrev pub invariant-loop-procedure : goal.invariant-loop-procedure
 invariant-loop-procedure l =
-    first_of (in_procedures in_pres (lines_of l.seen.cats.now l.seen.given.now (is_total {N = Ref})) (drop l.procedure-index l.procs))
-    ≡ first_of (in_procedures in_pres (lines_of l.seen.cats.now l.seen.given.now (is_total {N = Ref})) l.procs)
+    first_of (in_procedures in_pres (lines_of l.seen.cats.now l.seen.given.now (is_total {N = Ref}))
+    (drop l.procedure-index l.procs))
+    ≡ first_of (in_procedures in_pres (lines_of l.seen.cats.now l.seen.given.now (is_total {N = Ref}))
+    l.procs)

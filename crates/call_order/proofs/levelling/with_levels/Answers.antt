@@ -6,7 +6,9 @@ use Rattle.call_order.proofs.levelling.with_levels.Goals as goal
 
 pub returns : goal.returns
 returns c = elim c.in-None.ensures.steps [
-  | inl a ↦ none_left c.loop-info.levelled _ (into_iter_items c.loop-info.info-iterator.a) (iter_rest c.loop-info.info-iterator.b) c.loop-info.invariant.value
+  | inl a ↦ none_left c.loop-info.levelled _ (into_iter_items c.loop-info.info-iterator.a)
+      (iter_rest c.loop-info.info-iterator.b) c.loop-info.invariant.value
       (sym c.loop-info.invariant.count ∙ a.1.0)
-  | inr b ↦ no_level_left c.loop-info.levelled _ (into_iter_items c.loop-info.info-iterator.a) (iter_rest c.loop-info.info-iterator.b) c.loop-info.invariant.value b.1.0
+  | inr b ↦ no_level_left c.loop-info.levelled _ (into_iter_items c.loop-info.info-iterator.a)
+      (iter_rest c.loop-info.info-iterator.b) c.loop-info.invariant.value b.1.0
 ]

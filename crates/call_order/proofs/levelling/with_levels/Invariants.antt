@@ -6,6 +6,7 @@ use Rattle.call_order.proofs.levelling.with_levels.Given as goal
 
 abbrev pub invariant-loop-info : goal.invariant-loop-info
 invariant-loop-info l = record {
-  value : l.levelled ++ set_levels (into_iter_items l.info-iterator.a) (iter_rest l.info-iterator.b) ≡ set_levels l.fn.boxes l.levels;
+  value : l.levelled ++ set_levels (into_iter_items l.info-iterator.a) (iter_rest l.info-iterator.b)
+      ≡ set_levels l.fn.boxes l.levels;
   count : into_iter_len l.info-iterator.a ≡ length (into_iter_items l.info-iterator.a);
 }

@@ -3,8 +3,10 @@ use Rattle.call_order.proofs.LevelLemmas.{all_small, are_levels}
 use Rattle.call_order.proofs.levels.levels.Goals as goal
 
 pub next-requires : goal.next-requires
-next-requires c = all_small c.args.boxes.now c.loop.counter c.loop.levels c.loop.invariant (omega (arith, c.requires.few, c.loop-test.true))
+next-requires c = all_small c.args.boxes.now c.loop.counter c.loop.levels c.loop.invariant
+    (omega (arith, c.requires.few, c.loop-test.true))
 
 pub returns-clause-right : goal.returns-clause-right
-returns-clause-right c = are_levels c.args.boxes.now c.args.rows.now c.requires.there c.requires.known c.requires.acyclic c.loop.counter c.loop.levels c.loop.invariant
+returns-clause-right c = are_levels c.args.boxes.now c.args.rows.now c.requires.there c.requires.known
+    c.requires.acyclic c.loop.counter c.loop.levels c.loop.invariant
     (omega (arith, c.loop-test.false))

@@ -4,4 +4,5 @@ use Rattle.call_order.specs.Levels.{level_above}
 use Rattle.call_order.proofs.levels.next.Given as goal
 
 abbrev pub invariant-loop-info : goal.invariant-loop-info
-invariant-loop-info l = l.next ≡ map (λ (b : BoxInfo). level_above l.levels b.given) (take l.info-index l.boxes)
+invariant-loop-info l = l.next ≡ map (λ (b : BoxInfo). level_above l.levels b.given)
+    (take l.info-index l.boxes)

@@ -7,7 +7,9 @@ use Rattle.commute_certs.specs.Terms.{told, and_then, truth_in}
 use Rattle.commute_certs.specs.Bodies.{body, statement}
 use Rattle.commute_certs.specs.Answers.{Tells}
 use Rattle.commute_certs.proofs.Nodes.{handed_on}
-use Rattle.commute_certs.proofs.StatementLemmas.{leaves-Let, leaves-Assign, leaves-Call, leaves-If, leaves-While, branch_stopped, branch_taken, body_stops, body_goes_on}
+use Rattle.commute_certs.proofs.StatementLemmas.{leaves-Let, leaves-Assign, leaves-Call, leaves-If}
+use Rattle.commute_certs.proofs.StatementLemmas.{leaves-While, branch_stopped, branch_taken, body_stops}
+use Rattle.commute_certs.proofs.StatementLemmas.{body_goes_on}
 use Rattle.commute_certs.proofs.body.+bodies.Goals as goal
 
 pub run_statement-returns-in-Let : goal.run_statement-returns-in-Let

@@ -1,4 +1,5 @@
-use Rattle.commute_certs.proofs.SingleLemmas.{single-Let, single-Assign, single-Call, single-While, if_single, if_not_single, body_not_single, body_single_on}
+use Rattle.commute_certs.proofs.SingleLemmas.{single-Let, single-Assign, single-Call, single-While}
+use Rattle.commute_certs.proofs.SingleLemmas.{if_single, if_not_single, body_not_single, body_single_on}
 use Rattle.commute_certs.proofs.singles.+singles.Goals as goal
 
 pub single_statement-returns-in-Let : goal.single_statement-returns-in-Let

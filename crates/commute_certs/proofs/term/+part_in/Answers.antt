@@ -8,7 +8,10 @@ use Rattle.commute_certs.specs.declared.part.Part.TheVariants as P
 use Rattle.commute_certs.specs.Terms.{part_of}
 use Rattle.commute_certs.specs.Answers.{Tells}
 use Rattle.commute_certs.proofs.Comparisons.{fitting}
-use Rattle.commute_certs.proofs.Nodes.{handed_on, same_part, int_told, bool_told, empty_told, name_told, neg_stopped, neg_told, not_stopped, not_told, one_stopped, one_told, left_stopped, decision_stopped, left_decides, right_stopped, two_told}
+use Rattle.commute_certs.proofs.Nodes.{handed_on, same_part, int_told, bool_told, empty_told, name_told}
+use Rattle.commute_certs.proofs.Nodes.{neg_stopped, neg_told, not_stopped, not_told, one_stopped, one_told}
+use Rattle.commute_certs.proofs.Nodes.{left_stopped, decision_stopped, left_decides, right_stopped}
+use Rattle.commute_certs.proofs.Nodes.{two_told}
 use Rattle.commute_certs.proofs.term.+part_in.Goals as goal
 
 pub returns-in-Int : goal.returns-in-Int

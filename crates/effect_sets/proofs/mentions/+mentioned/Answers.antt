@@ -1,7 +1,8 @@
 use Rattle.std.proofs.Common.{◌∙◌, ap}
 use Rattle.std.specs.Prelude.{bit_or}
 use Rattle.effect_sets.specs.Masks.{mask}
-use Rattle.effect_sets.proofs.Masking.{int_mask, bool_mask, empty_mask, named_mask, neg_mask, not_mask, two_mask, one_mask}
+use Rattle.effect_sets.proofs.Masking.{int_mask, bool_mask, empty_mask, named_mask, neg_mask, not_mask}
+use Rattle.effect_sets.proofs.Masking.{two_mask, one_mask}
 use Rattle.effect_sets.proofs.mentions.+mentioned.Goals as goal
 
 pub returns-in-Int : goal.returns-in-Int

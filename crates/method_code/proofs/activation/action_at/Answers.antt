@@ -6,5 +6,8 @@ use Rattle.method_code.proofs.activation.action_at.Goals as goal
 
 pub returns : goal.returns
 returns c =
-    c.unwrap_or.ensures ∙ (ap (λ (o : Option ActionInfo). unwrap_or o (record { box_number = 0; procedure = 0 })) (c.copied.ensures ∙ c.get.ensures.value)
-    ∙ unwrap_or-slice_get c.args.program.now.actions c.args.action (record { box_number = 0; procedure = 0 }))
+    c.unwrap_or.ensures ∙
+    (ap (λ (o : Option ActionInfo). unwrap_or o (record { box_number = 0; procedure = 0 }))
+    (c.copied.ensures ∙ c.get.ensures.value)
+    ∙ unwrap_or-slice_get c.args.program.now.actions c.args.action
+    (record { box_number = 0; procedure = 0 }))

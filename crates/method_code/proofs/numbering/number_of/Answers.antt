@@ -8,30 +8,49 @@ use Rattle.method_code.proofs.numbering.number_of.Goals as goal
 
 pub procedures_in-before-requires : goal.procedures_in-before-requires
 procedures_in-before-requires c =
-    let through = count-through c.args.program.now.cats c.in-Some.info.now.cat c.in-Some-get.cat.now (sym c.in-Some-get.ensures.value) in
-    let taken : length (cats_code (take c.in-Some.info.now.cat c.as_slice-cats.result.now)) ≡ length (cats_code (take c.in-Some.info.now.cat c.args.program.now.cats)) =
-    ap (λ (cats : List (Cat Ref)). length (cats_code (take c.in-Some.info.now.cat cats))) c.as_slice-cats.ensures in
-    let count : length c.code.inside.methods ≡ length (cats_code c.args.program.now.cats) = ap (λ (ms : List Method). length ms) (c.code.view_is ∙ c.requires) in
+    let through = count-through c.args.program.now.cats c.in-Some.info.now.cat c.in-Some-get.cat.now
+    (sym c.in-Some-get.ensures.value) in
+    let taken : length (cats_code (take c.in-Some.info.now.cat c.as_slice-cats.result.now))
+    ≡ length (cats_code (take c.in-Some.info.now.cat c.args.program.now.cats)) =
+    ap (λ (cats : List (Cat Ref)). length (cats_code (take c.in-Some.info.now.cat cats)))
+    c.as_slice-cats.ensures in
+    let count : length c.code.inside.methods ≡ length (cats_code c.args.program.now.cats) =
+    ap (λ (ms : List Method). length ms) (c.code.view_is ∙ c.requires) in
     omega (arith, through, taken, count, c.code.invariant.count)
 
 pub overflow_cast-result-2 : goal.overflow_cast-result-2
 overflow_cast-result-2 c =
-    let through = count-through c.args.program.now.cats c.in-Some.info.now.cat c.in-Some-get.cat.now (sym c.in-Some-get.ensures.value) in
-    let taken : c.procedures_in-before.result ≡ length (cats_code (take c.in-Some.info.now.cat c.args.program.now.cats)) =
-    c.procedures_in-before.ensures ∙ ap (λ (cats : List (Cat Ref)). length (cats_code (take c.in-Some.info.now.cat cats))) c.as_slice-cats.ensures in
-    let count : length c.code.inside.methods ≡ length (cats_code c.args.program.now.cats) = ap (λ (ms : List Method). length ms) (c.code.view_is ∙ c.requires) in
+    let through = count-through c.args.program.now.cats c.in-Some.info.now.cat c.in-Some-get.cat.now
+    (sym c.in-Some-get.ensures.value) in
+    let taken : c.procedures_in-before.result ≡ length
+    (cats_code (take c.in-Some.info.now.cat c.args.program.now.cats)) =
+    c.procedures_in-before.ensures ∙ ap
+    (λ (cats : List (Cat Ref)). length (cats_code (take c.in-Some.info.now.cat cats)))
+    c.as_slice-cats.ensures in
+    let count : length c.code.inside.methods ≡ length (cats_code c.args.program.now.cats) =
+    ap (λ (ms : List Method). length ms) (c.code.view_is ∙ c.requires) in
     omega (arith, through, taken, count, c.code.invariant.count, c.len.ensures, c.if-procedure-len.false)
 
 pub overflow_add-result : goal.overflow_add-result
 overflow_add-result c =
-    let through = count-through c.args.program.now.cats c.in-Some.info.now.cat c.in-Some-get.cat.now (sym c.in-Some-get.ensures.value) in
-    let taken : c.procedures_in-before.result ≡ length (cats_code (take c.in-Some.info.now.cat c.args.program.now.cats)) =
-    c.procedures_in-before.ensures ∙ ap (λ (cats : List (Cat Ref)). length (cats_code (take c.in-Some.info.now.cat cats))) c.as_slice-cats.ensures in
-    let count : length c.code.inside.methods ≡ length (cats_code c.args.program.now.cats) = ap (λ (ms : List Method). length ms) (c.code.view_is ∙ c.requires) in
+    let through = count-through c.args.program.now.cats c.in-Some.info.now.cat c.in-Some-get.cat.now
+    (sym c.in-Some-get.ensures.value) in
+    let taken : c.procedures_in-before.result ≡ length
+    (cats_code (take c.in-Some.info.now.cat c.args.program.now.cats)) =
+    c.procedures_in-before.ensures ∙ ap
+    (λ (cats : List (Cat Ref)). length (cats_code (take c.in-Some.info.now.cat cats)))
+    c.as_slice-cats.ensures in
+    let count : length c.code.inside.methods ≡ length (cats_code c.args.program.now.cats) =
+    ap (λ (ms : List Method). length ms) (c.code.view_is ∙ c.requires) in
     omega (arith, through, taken, count, c.code.invariant.count, c.len.ensures, c.if-procedure-len.false)
 
 pub returns : goal.returns
 returns c =
-    let within : c.args.procedure < length c.in-Some-get.cat.now.procs = omega (arith, c.len.ensures, c.if-procedure-len.false) in
-    ap (λ n. n + c.args.procedure) (c.procedures_in-before.ensures ∙ ap (λ (cats : List (Cat Ref)). length (cats_code (take c.in-Some.info.now.cat cats))) c.as_slice-cats.ensures)
-    ∙ sym (number-is c.args.program.now c.args.box_number c.args.procedure c.in-Some.info.now c.in-Some-get.cat.now (sym c.in-Some.ensures.value) (sym c.in-Some-get.ensures.value) within)
+    let within : c.args.procedure < length c.in-Some-get.cat.now.procs =
+    omega (arith, c.len.ensures, c.if-procedure-len.false) in
+    ap (λ n. n + c.args.procedure)
+    (c.procedures_in-before.ensures ∙ ap
+    (λ (cats : List (Cat Ref)). length (cats_code (take c.in-Some.info.now.cat cats)))
+    c.as_slice-cats.ensures)
+    ∙ sym (number-is c.args.program.now c.args.box_number c.args.procedure c.in-Some.info.now
+    c.in-Some-get.cat.now (sym c.in-Some.ensures.value) (sym c.in-Some-get.ensures.value) within)

@@ -6,4 +6,5 @@ use Rattle.method_code.proofs.passing.take_vars.Goals as goal
 
 pub returns-then-at-len-clause-back : goal.returns-then-at-len-clause-back
 returns-then-at-len-clause-back c = λ vars.
-    ap (λ (boxes : List Vars). slice_set boxes c.args.box_number vars) c.replace.ensures.after ∙ set-set c.args.state.now.boxes c.args.box_number (record { values = c.new.result }) vars
+    ap (λ (boxes : List Vars). slice_set boxes c.args.box_number vars) c.replace.ensures.after
+    ∙ set-set c.args.state.now.boxes c.args.box_number (record { values = c.new.result }) vars

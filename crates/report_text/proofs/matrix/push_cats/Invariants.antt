@@ -6,4 +6,5 @@ use Rattle.report_text.proofs.matrix.push_cats.Given as goal
 -- the certificates of the cats so far are written, and the levels of the others are left
 abbrev pub invariant-loop-cat : goal.invariant-loop-cat
 invariant-loop-cat l =
-    HasWritten l.cats l.cat-index l.rest l.text (l.fn.text ++ certificate_lines (certificates l.cats) l.levels)
+    HasWritten l.cats l.cat-index l.rest l.text
+    (l.fn.text ++ certificate_lines (certificates l.cats) l.levels)

@@ -9,4 +9,5 @@ use Rattle.report_text.proofs.tight.tight_end.Given as goal
 abbrev pub invariant-loop-action : goal.invariant-loop-action
 invariant-loop-action l =
     last_line (attempts_of l.actions l.outcomes)
-    ≡ last_line (attempts_of (iter_rest (zip_first l.action-iterator)) (iter_rest (zip_second l.action-iterator)))
+    ≡ last_line (attempts_of (iter_rest (zip_first l.action-iterator))
+    (iter_rest (zip_second l.action-iterator)))

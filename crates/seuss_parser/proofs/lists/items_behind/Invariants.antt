@@ -6,7 +6,8 @@ use Rattle.seuss_parser.proofs.lists.items_behind.Given as goal
 abbrev pub invariant-loop-alloc : goal.invariant-loop-alloc
 invariant-loop-alloc g l = record {
   so_far : Collects g.T.Item.starts g.T.Phrase.reading l.items l.words.room l.words.left.items
-      (read_items_behind l.fn.first g.T.Item.starts g.T.Phrase.reading l.fn.words.room l.fn.words.left.items);
+      (read_items_behind l.fn.first g.T.Item.starts g.T.Phrase.reading l.fn.words.room
+      l.fn.words.left.items);
   no_longer : length l.words.left.items ≤ length l.fn.words.left.items;
 }
 

@@ -22,6 +22,7 @@ block-loop-alloc-preserved t c = record {
 pub choice-returns-in_err-take-2-clause-gives : goal.choice-returns-in_err-take-2-clause-gives
 choice-returns-in_err-take-2-clause-gives t c =
     gives-error _ _ _ _ _ _ _
-    (if-end _ _ _ _ _ _ _ _ _ _ _ _ _ _ _ _ _ _ _ c.in_ok-take_within.ensures.gives c.in_ok-cond.ensures.gives
+    (if-end _ _ _ _ _ _ _ _ _ _ _ _ _ _ _ _ _ _ _ c.in_ok-take_within.ensures.gives
+    c.in_ok-cond.ensures.gives
     c.in_ok-take.ensures.gives c.in_ok-yes.ensures.gives c.in_ok-no.ensures.gives)
     c.in_err-take-2.ensures.gives c.from_residual-in_err-take-2.ensures.1

@@ -1,4 +1,5 @@
-use Rattle.std.proofs.Common.{◌≡◌, ℕ, ℤ, zero, suc, ◌+◌, ◌++◌, ◌∷◌, [], List, Some, slice_get, drop, sym, ap, ◌∙◌, arith, append_assoc, w64, rules, FitsSigned}
+use Rattle.std.proofs.Common.{◌≡◌, ℕ, ℤ, zero, suc, ◌+◌, ◌++◌, ◌∷◌, [], List, Some, slice_get, drop, sym}
+use Rattle.std.proofs.Common.{ap, ◌∙◌, arith, append_assoc, w64, rules, FitsSigned}
 use Rattle.std.proofs.Math.Facts.{to_z-of_z}
 use Rattle.std.proofs.lemmas.Grind.{flat_map-append}
 use Rattle.std.specs.List.{flat_map}
@@ -15,7 +16,8 @@ flat_map_from f (y ∷ ys) (suc at) x e =
     let more : suc at + 1 ≡ suc (at + 1) = omega arith in rw more (flat_map_from f ys at x e)
 
 -- the number at a place goes from what is left to what is written
-next_written : (zs : List ℤ) (at : ℕ) (z : ℤ) (text between after whole : List ℕ) → slice_get zs at ≡ Some z →
+next_written : (zs : List ℤ) (at : ℕ) (z : ℤ) (text between after whole : List ℕ) →
+    slice_get zs at ≡ Some z →
     between ≡ text ++ 44 ∷ 32 ∷ [] → after ≡ between ++ text_of (signed z) →
     text ++ text_of (flat_map (behind_comma signed) (drop at zs)) ≡ whole →
     after ++ text_of (flat_map (behind_comma signed) (drop (at + 1) zs)) ≡ whole
@@ -26,7 +28,8 @@ next_written zs at z text between after whole here comma written e =
     ap (λ items. text_of items) (flat_map_from (behind_comma signed) zs at z here)
     ∙ flat_map-append item_text (behind_comma signed z) rest in
     let now : after ≡ text ++ piece =
-    written ∙ (ap (λ bytes. bytes ++ text_of (signed z)) comma ∙ append_assoc text (44 ∷ 32 ∷ []) (text_of (signed z))) in
+    written ∙ (ap (λ bytes. bytes ++ text_of (signed z)) comma
+    ∙ append_assoc text (44 ∷ 32 ∷ []) (text_of (signed z))) in
     ap (λ bytes. bytes ++ text_of rest) now
     ∙ (append_assoc text piece (text_of rest) ∙ (ap (λ bytes. text ++ bytes) (sym split) ∙ e))
 

@@ -1,4 +1,5 @@
-use Rattle.std.proofs.Common.{◌≡◌, ℕ, ◌+◌, zero, suc, ◌∷◌, [], ◌++◌, List, refl, ap, ◌∙◌, append_assoc, add-one}
+use Rattle.std.proofs.Common.{◌≡◌, ℕ, ◌+◌, zero, suc, ◌∷◌, [], ◌++◌, List, refl, ap, ◌∙◌, append_assoc}
+use Rattle.std.proofs.Common.{add-one}
 use Rattle.seuss_print.specs.Items.{text_of, indented}
 use Rattle.seuss_print.proofs.statements.push_indent.Goals as goal
 

@@ -23,7 +23,8 @@ returns-in_err-actions c =
     unnamed c.args.names.now c.args.bytes.now
     (c.in_ok-job.job.program, c.in_ok-job.job.input) c.in_ok-job.ensures.meets
     c.in_err-actions.field-0.0 c.from_residual-in_err-actions.result c.from_residual-in_err-actions.ensures.1
-    (subst (λ ns. NamesActions c.in_ok-job.job.program ns (Err c.in_err-actions.field-0.0)) c.as_slice.ensures
+    (subst (λ ns. NamesActions c.in_ok-job.job.program ns (Err c.in_err-actions.field-0.0))
+    c.as_slice.ensures
     c.in_err-actions.ensures)
 
 -- the actions were attempted

@@ -1,7 +1,8 @@
 use Rattle.std.proofs.Common.{◌*◌, length, ◌≡◌, Bool, true, false, subst, arith}
 use Rattle.seuss_program.specs.Initials.{initial}
 use Rattle.seuss_run.specs.Runs.{Adds}
-use Rattle.seuss_run.proofs.InTurn.{adds_in_turn, adds_length, adds_none_stops, adds_stopped_is_lawful, whole_is_lawful}
+use Rattle.seuss_run.proofs.InTurn.{adds_in_turn, adds_length, adds_none_stops, adds_stopped_is_lawful}
+use Rattle.seuss_run.proofs.InTurn.{whole_is_lawful}
 use Rattle.seuss_run.proofs.run.run_rounds.Goals as goal
 
 -- the attempt that stopped the run is the last one

@@ -1,7 +1,8 @@
 use Rattle.std.proofs.Common.{map, string_bytes, subst}
 use Rattle.std.specs.Prelude.{IsTrue}
 use Rattle.seuss_run.specs.Answers.{IsAny}
-use Rattle.seuss_run.proofs.TopLemmas.{refused_is_not_done, accepted_is_not_refused, three_or_above, two_or_above, any_ends}
+use Rattle.seuss_run.proofs.TopLemmas.{refused_is_not_done, accepted_is_not_refused, three_or_above}
+use Rattle.seuss_run.proofs.TopLemmas.{two_or_above, any_ends}
 use Rattle.seuss_run.proofs.top.seuss.Goals as goal
 
 -- accepted words and bytes are done
@@ -21,7 +22,8 @@ returns-then-asks_run-clause-refused_exactly g c = λ command bytes why spelled 
     three_or_above c.serve.result
     (λ low. let ends = c.serve.ensures.done low in
     refused_is_not_done c.one_verdict.ensures IsAny words (g.R.Source.left c.args.source.now)
-    (g.R.Source.left c.serve.new.source) command bytes spelled tells why c.serve.result ends.0 refused ends.1)
+    (g.R.Source.left c.serve.new.source) command bytes spelled tells why c.serve.result ends.0 refused
+    ends.1)
     (λ four. (c.serve.ensures.usage four).0 command tt spelled)
 
 -- a command that waits for nothing was answered, and the write failed

@@ -3,7 +3,8 @@ use Rattle.std.proofs.lemmas.Str.Pattern.{split_after}
 use Rattle.seuss_text.specs.Words.{kind_of}
 use Rattle.seuss_run.proofs.WordLemmas.{name_no_point, word_point}
 use Rattle.seuss_run.proofs.words.action_names.Goals as goal
-use Rattle.seuss_run.proofs.words.action_names.Goals.{then-not-is_name-via-then-not-is_name, then-not-is_name-via-else-not-is_name+then-not-is_name-2}
+use Rattle.seuss_run.proofs.words.action_names.Goals.{then-not-is_name-via-then-not-is_name}
+use Rattle.seuss_run.proofs.words.action_names.Goals.{then-not-is_name-via-else-not-is_name+then-not-is_name-2}
 
 -- a word with no point is no action
 pub returns-in_default-clause-none : goal.returns-in_default-clause-none

@@ -1,4 +1,5 @@
-use Rattle.std.proofs.Common.{◌≡◌, ◌+◌, ◌∷◌, [], ◌++◌, ◌∙◌, map, ap, length, length-append, drop, string_bytes, arith}
+use Rattle.std.proofs.Common.{◌≡◌, ◌+◌, ◌∷◌, [], ◌++◌, ◌∙◌, map, ap, length, length-append, drop}
+use Rattle.std.proofs.Common.{string_bytes, arith}
 use Rattle.std.proofs.lemmas.List.Elements.{All-push, All-same}
 use Rattle.seuss_run.specs.Commands.{AreNames, action_word}
 use Rattle.seuss_run.proofs.WordLemmas.{words_from, one_more, no_action}

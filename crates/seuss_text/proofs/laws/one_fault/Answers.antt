@@ -1,4 +1,5 @@
-use Rattle.seuss_text.proofs.RowLemmas.{bad_byte_same, range_same, bad_byte_no_range, tokens_no_bad_byte, tokens_no_range}
+use Rattle.seuss_text.proofs.RowLemmas.{bad_byte_same, range_same, bad_byte_no_range, tokens_no_bad_byte}
+use Rattle.seuss_text.proofs.RowLemmas.{tokens_no_range}
 use Rattle.seuss_text.proofs.laws.one_fault.Goals as goal
 
 pub returns-clause-bad_byte : goal.returns-clause-bad_byte

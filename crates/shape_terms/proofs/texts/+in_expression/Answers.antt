@@ -1,4 +1,5 @@
-use Rattle.shape_terms.proofs.TextLemmas.{not_in_int, not_in_bool, not_in_empty, in_name, in_neg, in_not, in_one, in_two}
+use Rattle.shape_terms.proofs.TextLemmas.{not_in_int, not_in_bool, not_in_empty, in_name, in_neg, in_not}
+use Rattle.shape_terms.proofs.TextLemmas.{in_one, in_two}
 use Rattle.shape_terms.proofs.texts.+in_expression.Goals as goal
 
 pub returns-in-Int : goal.returns-in-Int

@@ -7,4 +7,6 @@ use Rattle.tight_order.proofs.entry.add_bound.Given as goal
 
 abbrev pub invariant-loop-alternative : goal.invariant-loop-alternative
 invariant-loop-alternative l =
-    l.slots ≡ l.initial.slots ++ flat_map (λ (a : Alternative Ref). bound_local a.pre ++ flat_map locals_of a.body) (take l.alternative-index l.alternatives)
+    l.slots ≡ l.initial.slots ++ flat_map
+    (λ (a : Alternative Ref). bound_local a.pre ++ flat_map locals_of a.body)
+    (take l.alternative-index l.alternatives)

@@ -7,4 +7,5 @@ use Rattle.seuss_program.specs.Values.{int_of}
 use Rattle.tight_order.proofs.entry.number_at.Goals as goal
 
 pub returns-in-None : goal.returns-in-None
-returns-in-None c = ap (λ (o : Option Value). int_of (unwrap_or o (Int (pos 0)))) c.in-None.ensures.value ∙ ap int_of (unwrap_or-slice_get c.args.slots.now c.args.at (Int (pos 0)))
+returns-in-None c = ap (λ (o : Option Value). int_of (unwrap_or o (Int (pos 0)))) c.in-None.ensures.value
+    ∙ ap int_of (unwrap_or-slice_get c.args.slots.now c.args.at (Int (pos 0)))

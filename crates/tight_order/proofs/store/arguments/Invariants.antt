@@ -5,4 +5,5 @@ use Rattle.tight_order.proofs.store.arguments.Given as goal
 
 abbrev pub invariant-loop-arg : goal.invariant-loop-arg
 invariant-loop-arg l =
-    arguments_after l.values (drop l.arg-index l.arg-items) (vars_of l.state l.box_number) l.slots ≡ arguments l.args (vars_of l.state l.box_number) l.slots
+    arguments_after l.values (drop l.arg-index l.arg-items) (vars_of l.state l.box_number) l.slots
+    ≡ arguments l.args (vars_of l.state l.box_number) l.slots

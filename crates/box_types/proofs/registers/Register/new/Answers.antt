@@ -15,9 +15,11 @@ pub loop-number-preserved : goal.loop-number-preserved
 loop-number-preserved g c = λ text.
     let l = c.loop-number in let x = c.index-items-number in
     let noted = c.in_ok-note.ensures.noted text
-    ∙ ap (λ n. or_else (found l.numbers text) (cond (bytes_eq n.text text) (Some l.number) None)) c.name.ensures in
+    ∙ ap (λ n. or_else (found l.numbers text) (cond (bytes_eq n.text text) (Some l.number) None))
+    c.name.ensures in
     next (λ y. bytes_eq (g.T.Named.name_of y).text text) c.args.items.now l.number x.result
-    (found l.numbers text) (found c.note.new.numbers text) c.loop-number-test.true x.is noted ∙ l.invariant text
+    (found l.numbers text) (found c.note.new.numbers text) c.loop-number-test.true x.is noted
+    ∙ l.invariant text
 
 pub invariant_of-result : goal.invariant_of-result
 invariant_of-result g c = record {

@@ -1,7 +1,8 @@
 use Rattle.std.proofs.Common.{sym, subst, arith}
 use Rattle.compat_scheduler.specs.Machines.{Scheduler, IsRunning}
 use Rattle.compat_scheduler.specs.Starts.{IsNext}
-use Rattle.compat_scheduler.proofs.SchedulerLemmas.{starts_written, starts_fit, scheduler-starts, running-starts}
+use Rattle.compat_scheduler.proofs.SchedulerLemmas.{starts_written, starts_fit, scheduler-starts}
+use Rattle.compat_scheduler.proofs.SchedulerLemmas.{running-starts}
 use Rattle.compat_scheduler.proofs.sched_core.SchedCore.start.Goals as goal
 
 pub overflow_add-self : goal.overflow_add-self

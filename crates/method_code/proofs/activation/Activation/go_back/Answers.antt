@@ -7,6 +7,7 @@ use Rattle.method_code.proofs.activation.Activation.go_back.Goals as goal
 pub returns : goal.returns
 returns c = (
   rejected-pops c.args.self.now c.args.self.now.plain c.pop.new.self c.in-Some.waiting c.in-Some.ensures
-      ∙ ap (λ (f : Frame). back_in c.pop.new.self c.args.self.now.plain c.in-Some.waiting f) (sym c.reject.ensures),
+      ∙ ap (λ (f : Frame). back_in c.pop.new.self c.args.self.now.plain c.in-Some.waiting f)
+      (sym c.reject.ensures),
   refl,
 )

@@ -7,6 +7,7 @@ use Rattle.method_code.proofs.activation.Activation.go_on.Goals as goal
 pub returns : goal.returns
 returns c = (
   accepted-pops c.args.self.now c.args.found c.pop.new.self c.in-Some.waiting c.in-Some.ensures
-      ∙ ap (λ (f : Frame). back_in c.pop.new.self c.args.self.now.plain c.in-Some.waiting f) (sym c.in_ok-self.ensures),
+      ∙ ap (λ (f : Frame). back_in c.pop.new.self c.args.self.now.plain c.in-Some.waiting f)
+      (sym c.in_ok-self.ensures),
   refl,
 )
