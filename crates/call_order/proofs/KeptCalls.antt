@@ -38,14 +38,16 @@ use Rattle.box_types.specs.Namings as N
 use Rattle.call_order.specs.Calls as C
 use Rattle.call_order.proofs.KeptExpressions.{none-left, none-right, passes-by, same-kind, is-kind-same}
 use Rattle.call_order.proofs.KeptExpressions.{Fits, Agrees, Known, has_kind}
+use Rattle.call_order.proofs.NumberPlaces.{number_at, sized-by}
 
--- the tests of names, kinds, types, numbers of arguments and limits at a place
+-- the tests of numbers, names, kinds, types, numbers of arguments and limits at a place
 abbrev pub all_at : Test
-all_at place = unknown_at place ++
-    (kind_at place ++ (type_at place ++ (arguments_at place ++ count_at place)))
+all_at place = number_at place ++ (unknown_at place ++
+    (kind_at place ++ (type_at place ++ (arguments_at place ++ count_at place))))
 
 -- a place that none of them finds
 pub record Clean (place : Place) : Type 0 where
+  pub number : number_at place ≡ []
   pub unknown : unknown_at place ≡ []
   pub kind : kind_at place ≡ []
   pub type : type_at place ≡ []
@@ -54,12 +56,15 @@ pub record Clean (place : Place) : Type 0 where
 
 pub clean_by : (place : Place) → all_at place ≡ [] → Clean place
 clean_by place h =
+    let h0 : unknown_at place ++ (kind_at place ++
+    (type_at place ++ (arguments_at place ++ count_at place))) ≡ [] = none-right (number_at place) _ h in
     let h1 : kind_at place ++ (type_at place ++ (arguments_at place ++ count_at place)) ≡ [] =
-    none-right (unknown_at place) _ h in
+    none-right (unknown_at place) _ h0 in
     let h2 : type_at place ++ (arguments_at place ++ count_at place) ≡ [] =
     none-right (kind_at place) _ h1 in
     let h3 : arguments_at place ++ count_at place ≡ [] = none-right (type_at place) _ h2 in record {
-      unknown = none-left (unknown_at place) _ h;
+      number = none-left (number_at place) _ h;
+      unknown = none-left (unknown_at place) _ h0;
       kind = none-left (kind_at place) _ h1;
       type = none-left (type_at place) _ h2;
       arguments = none-left (arguments_at place) _ h3;
@@ -349,16 +354,18 @@ module _ (cats : List (Cat Name)) (own : Cat Name) (visible : List Local) (k : P
       W.numbered (W.argument unknown_at cats own visible all) n es ≡ [] →
       W.numbered (W.argument kind_at cats own visible all) n es ≡ [] →
       W.numbered (W.argument type_at cats own visible all) n es ≡ [] →
+      W.numbered (W.argument number_at cats own visible all) n es ≡ [] →
       P.arguments_fit k (map (N.expression own visible) es) (P.param_kinds ps) ≡ true
-  arguments-fit all [] n [] at count unknown kind type = refl
-  arguments-fit all [] n (e ∷ es) at count unknown kind type = absurd (omega (arith, count))
-  arguments-fit all (p ∷ ps) n [] at count unknown kind type = absurd (omega (arith, count))
-  arguments-fit all (p ∷ ps) n (e ∷ es) at count unknown kind type =
+  arguments-fit all [] n [] at count unknown kind type number = refl
+  arguments-fit all [] n (e ∷ es) at count unknown kind type number = absurd (omega (arith, count))
+  arguments-fit all (p ∷ ps) n [] at count unknown kind type number = absurd (omega (arith, count))
+  arguments-fit all (p ∷ ps) n (e ∷ es) at count unknown kind type number =
       let known : Known own visible k agrees e = has_kind own visible k agrees e
       (none-left (in_names (unknown_name own visible) e) _ unknown)
       (none-left (in_names (no_value own visible) e) _ kind)
       (none-left (T.part own visible e).typed.lines _
-      (none-left (T.wrong (W.kind_at all n) (T.part own visible e)) _ type)) in
+      (none-left (T.wrong (W.kind_at all n) (T.part own visible e)) _ type))
+      (sized-by e (none-left (number_at (Value own visible (W.kind_at all n) e)) _ number)) in
       let here : slice_get all n ≡ Some p =
       (let e0 : n ≡ n + 0 = omega arith in ap (slice_get all) e0 ∙ at 0) in
       let other : T.is_other p.kind known.kind ≡ false =
@@ -373,7 +380,8 @@ module _ (cats : List (Cat Name)) (own : Cat Name) (visible : List Local) (k : P
       (omega (arith, count))
       (none-right (in_names (unknown_name own visible) e) _ unknown)
       (none-right (in_names (no_value own visible) e) _ kind)
-      (none-right (T.wrong (W.kind_at all n) (T.part own visible e)) _ type) in
+      (none-right (T.wrong (W.kind_at all n) (T.part own visible e)) _ type)
+      (none-right (number_at (Value own visible (W.kind_at all n) e)) _ number) in
       ap (λ o. P.is_of p.kind o && P.arguments_fit k (map (N.expression own visible) es) (P.param_kinds ps))
       (known.numbered ∙ ap (λ x. Some x) (same-kind p.kind known.kind other))
       ∙ (ap (λ t. t && P.arguments_fit k (map (N.expression own visible) es) (P.param_kinds ps))
@@ -448,10 +456,16 @@ module _ (cats : List (Cat Name)) (own : Cat Name) (visible : List Local) (k : P
       clean_by (Method cats own visible c)
       (none-left _ _ (none-right (all_at (Target own visible c.target)) _ lines)) in
       let params_are : W.params_of (method_called cats own visible c) ≡ q.params = ap W.params_of n.called in
-      let args : W.numbered (W.argument all_at cats own visible q.params) 0 c.args ≡ [] =
+      let all : W.numbered (W.argument all_at cats own visible q.params) 0 c.args ≡ [] =
       subst (λ ps. W.numbered (W.argument all_at cats own visible ps) 0 c.args ≡ []) params_are
       (none-right (all_at (Method cats own visible c)) _
       (none-right (all_at (Target own visible c.target)) _ lines)) in
+      let args = numbered-right (W.argument number_at cats own visible q.params)
+      (λ m e. unknown_at (Value own visible (W.kind_at q.params m) e)
+      ++ (kind_at (Value own visible (W.kind_at q.params m) e)
+      ++ (type_at (Value own visible (W.kind_at q.params m) e)
+      ++ (arguments_at (Value own visible (W.kind_at q.params m) e)
+      ++ count_at (Value own visible (W.kind_at q.params m) e))))) 0 c.args all in
       let behind1 = numbered-right (W.argument unknown_at cats own visible q.params)
       (λ m e. kind_at (Value own visible (W.kind_at q.params m) e)
       ++ (type_at (Value own visible (W.kind_at q.params m) e)
@@ -482,7 +496,13 @@ module _ (cats : List (Cat Name)) (own : Cat Name) (visible : List Local) (k : P
       ++ count_at (Value own visible (W.kind_at q.params m) e))) 0 c.args behind1)
       (numbered-left (W.argument type_at cats own visible q.params)
       (λ m e. (arguments_at (Value own visible (W.kind_at q.params m) e)
-      ++ count_at (Value own visible (W.kind_at q.params m) e))) 0 c.args behind2) in
+      ++ count_at (Value own visible (W.kind_at q.params m) e))) 0 c.args behind2)
+      (numbered-left (W.argument number_at cats own visible q.params)
+      (λ m e. unknown_at (Value own visible (W.kind_at q.params m) e)
+      ++ (kind_at (Value own visible (W.kind_at q.params m) e)
+      ++ (type_at (Value own visible (W.kind_at q.params m) e)
+      ++ (arguments_at (Value own visible (W.kind_at q.params m) e)
+      ++ count_at (Value own visible (W.kind_at q.params m) e))))) 0 c.args all) in
       ap (λ o. P.meets k form bind (map (N.expression own visible) c.args) o) n.numbered
       ∙ (ap (λ t. t && (P.arguments_fit k (map (N.expression own visible) c.args) (P.param_kinds q.params)
       && P.bind_fits k bind q.gives)) formed

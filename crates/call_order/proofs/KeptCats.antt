@@ -488,6 +488,7 @@ module _ (cats : List (Cat Name)) (own : Cat Name) where
       record {
         starts = all-by (λ (v : Var). P.kind_of v.start ≡ v.kind) own.vars
             (all-starts own.vars (by-all (λ (v : Var). WF.HasKind v.start v.kind) own.vars formed.starts));
+        sizes = formed.sizes;
         given = all-by (λ (g : Given Ref). IsTrue (P.is_there (P.cat_at (map (N.cat cats) cats) g.cat)))
             (map (N.given cats) own.given)
             (all-map (λ (g : Given Ref). IsTrue (P.is_there (P.cat_at (map (N.cat cats) cats) g.cat)))

@@ -1,7 +1,7 @@
 -- An expression whose names are known and whose types are right has, with its names as numbers, the kind
 -- that its type is.
 use Rattle.std.specs.Prelude.{◌≡◌, ℕ, nat_lt, Bool, true, false, ◌&&◌, not, if◌then◌else◌, List, [], ◌∷◌}
-use Rattle.std.specs.Prelude.{◌++◌, slice_get, Option, None, Some, option_and_then}
+use Rattle.std.specs.Prelude.{◌++◌, ℤ, slice_get, Option, None, Some, option_and_then}
 use Rattle.std.proofs.Common.{refl, sym, ap, subst, ◌∙◌}
 use Rattle.seuss_program.specs.declared.tree.Name.{Name}
 use Rattle.seuss_program.specs.declared.tree.Ref.{Ref}
@@ -21,6 +21,7 @@ use Rattle.seuss_program.specs.declared.tree.Expr.{Expr, Expr-F, fold_out-Expr, 
 use Rattle.seuss_program.specs.declared.tree.Expr.{map-Expr}
 use Rattle.seuss_program.specs.declared.tree.Cat.{Cat}
 use Rattle.seuss_program.specs.Keeping as P
+use Rattle.seuss_program.specs.WellFormed.{has_numbers}
 use Rattle.box_types.specs.declared.scopes.Local.{Local}
 use Rattle.box_types.specs.declared.scopes.Meaning.{Meaning}
 use Rattle.box_types.specs.declared.scopes.Meaning.TheVariants as M
@@ -31,6 +32,7 @@ use Rattle.box_types.specs.Unknown.{names_step, in_names, is_nothing, unknown_na
 use Rattle.box_types.specs.WrongKind.{is_no_value, no_value}
 use Rattle.box_types.specs.WrongType as T
 use Rattle.box_types.specs.Namings as N
+use Rattle.call_order.proofs.NumberLemmas.{both, numbers_of, numbers-expr, numbers-roll}
 
 -- what has no lines has none in its parts
 pub none-left : (xs ys : List ℕ) → xs ++ ys ≡ [] → xs ≡ []
@@ -209,20 +211,21 @@ module _ (own : Cat Name) (visible : List Local) (k : P.Scope) (agrees : Agrees 
 
   NodeClaim : Node Name → Type 0
   NodeClaim n = names_of (unknown_name own visible) n ≡ [] → names_of (no_value own visible) n ≡ [] →
-      (typed_of n).lines ≡ [] → KnownNode n
+      (typed_of n).lines ≡ [] → numbers_of n ≡ true → KnownNode n
 
   abbrev pub Claim : Expr Name → Type 0
   Claim e = in_names (unknown_name own visible) e ≡ [] → in_names (no_value own visible) e ≡ [] →
-      (T.part own visible e).typed.lines ≡ [] → Known e
+      (T.part own visible e).typed.lines ≡ [] → has_numbers e ≡ true → Known e
 
   -- by the node of an expression
   expr-claim : (e : Expr Name) → NodeClaim e.node → Claim e
   unfolding NodeClaim
-  expr-claim e claim unknown wrong typed =
+  expr-claim e claim unknown wrong typed sized =
       let known : KnownNode e.node =
       claim (sym (names-expr (unknown_name own visible) e) ∙ unknown)
       (sym (names-expr (no_value own visible) e) ∙ wrong)
-      (ap (λ (t : T.Typed). t.lines) (sym (typed-expr e)) ∙ typed) in record {
+      (ap (λ (t : T.Typed). t.lines) (sym (typed-expr e)) ∙ typed) (sym (numbers-expr e) ∙ sized) in
+      record {
         kind = known.kind;
         typed = ap (λ (t : T.Typed). t.kind) (typed-expr e) ∙ known.typed;
         numbered = kind-expr (N.expression own visible e)
@@ -250,10 +253,11 @@ module _ (own : Cat Name) (visible : List Local) (k : P.Scope) (agrees : Agrees 
   -- a part that is of the wanted type
   pub part-known : (e : Expr Name) (wanted : Kind) → Claim e → in_names (unknown_name own visible) e ≡ [] →
       in_names (no_value own visible) e ≡ [] →
-      T.wrong (Some wanted) (T.part own visible e) ≡ [] →
+      T.wrong (Some wanted) (T.part own visible e) ≡ [] → has_numbers e ≡ true →
       P.kind_in k (N.expression own visible e) ≡ Some wanted
-  part-known e wanted claim unknown novalue lines =
-      let known : Known e = claim unknown novalue (none-left (T.part own visible e).typed.lines _ lines) in
+  part-known e wanted claim unknown novalue lines sized =
+      let known : Known e = claim unknown novalue (none-left (T.part own visible e).typed.lines _ lines)
+      sized in
       let other : T.is_other wanted known.kind ≡ false =
       subst (λ o. T.differs (Some wanted) o ≡ false) known.typed
       (passes-by (T.differs (Some wanted) (T.part own visible e).typed.kind) (T.part own visible e).line
@@ -264,6 +268,7 @@ module _ (own : Cat Name) (visible : List Local) (k : P.Scope) (agrees : Agrees 
   one-claim : (d : Node-F Name (Node Name) (Expr Name)) (d' : Node-F Ref (Node Ref) (Expr Ref))
       (e : Expr Name) (takes gives : Kind) → Claim e →
       ((at : Name → List ℕ) → names_of at (roll-Node Name d) ≡ in_names at e) →
+      numbers_of (roll-Node Name d) ≡ has_numbers e →
       T.node_step own visible
       (map-Node Name (Node Name) (Expr Name) T.Typed T.Part typed_of (T.part own visible) d)
       ≡ T.one takes gives (T.part own visible e) →
@@ -274,13 +279,13 @@ module _ (own : Cat Name) (visible : List Local) (k : P.Scope) (agrees : Agrees 
       (P.kind_in k) d') ≡ P.where_of takes (P.kind_in k (N.expression own visible e)) gives →
       NodeClaim (roll-Node Name d)
   unfolding NodeClaim
-  one-claim d d' e takes gives claim names typed same kind unknown novalue lines =
+  one-claim d d' e takes gives claim names numbers typed same kind unknown novalue lines sized =
       let none : T.wrong (Some takes) (T.part own visible e) ≡ [] =
       whole-none gives (T.wrong (Some takes) (T.part own visible e))
       (ap (λ (t : T.Typed). t.lines) (sym (typed-roll d ∙ typed)) ∙ lines) in
       let known : P.kind_in k (N.expression own visible e) ≡ Some takes =
       part-known e takes claim (sym (names (unknown_name own visible)) ∙ unknown)
-      (sym (names (no_value own visible)) ∙ novalue) none in
+      (sym (names (no_value own visible)) ∙ novalue) none (sym numbers ∙ sized) in
       node-known d d' gives same
       (ap (λ (t : T.Typed). t.kind) typed ∙ ap (λ ls. (T.whole gives ls).kind) none)
       (kind ∙ (ap (λ o. P.where_of takes o gives) known
@@ -288,7 +293,7 @@ module _ (own : Cat Name) (visible : List Local) (k : P.Scope) (agrees : Agrees 
 
   two-claim : (op : Op) (l r : Expr Name) → Claim l → Claim r → NodeClaim (roll-Node Name (L.Two op l r))
   unfolding NodeClaim
-  two-claim op l r left right unknown novalue lines =
+  two-claim op l r left right unknown novalue lines sized =
       let d : Node-F Name (Node Name) (Expr Name) = L.Two op l r in
       let names : (at : Name → List ℕ) → names_of at (roll-Node Name d) ≡ in_names at l ++ in_names at r =
       (λ at. names-roll at d) in
@@ -302,16 +307,17 @@ module _ (own : Cat Name) (visible : List Local) (k : P.Scope) (agrees : Agrees 
       none-left _ (T.wrong (T.beside op pl.typed.kind) pr) none in
       let on_right : T.wrong (T.beside op pl.typed.kind) pr ≡ [] =
       none-right (pl.typed.lines ++ fails (T.refuses op pl.typed.kind) pl.line) _ none in
+      let numbers = both (has_numbers l) (has_numbers r) (sym (numbers-roll d) ∙ sized) in
       let a : Known l = left
       (none-left _ (in_names (unknown_name own visible) r)
       (sym (names (unknown_name own visible)) ∙ unknown))
       (none-left _ (in_names (no_value own visible) r) (sym (names (no_value own visible)) ∙ novalue))
-      (none-left pl.typed.lines _ on_left) in
+      (none-left pl.typed.lines _ on_left) numbers.0 in
       let b : Known r = right
       (none-right (in_names (unknown_name own visible) l) _
       (sym (names (unknown_name own visible)) ∙ unknown))
       (none-right (in_names (no_value own visible) l) _ (sym (names (no_value own visible)) ∙ novalue))
-      (none-left pr.typed.lines _ on_right) in
+      (none-left pr.typed.lines _ on_right) numbers.1 in
       let refused : T.refuses op (Some a.kind) ≡ false =
       subst (λ o. T.refuses op o ≡ false) a.typed
       (passes-by (T.refuses op pl.typed.kind) pl.line (none-right pl.typed.lines _ on_left)) in
@@ -331,7 +337,7 @@ module _ (own : Cat Name) (visible : List Local) (k : P.Scope) (agrees : Agrees 
 
   name-claim : (name : Name) → NodeClaim (roll-Node Name (L.Name name))
   unfolding NodeClaim
-  name-claim name unknown novalue lines =
+  name-claim name unknown novalue lines sized =
       let d : Node-F Name (Node Name) (Expr Name) = L.Name name in
       let known = value-kind k (meaning_of own visible name) (agrees.at name)
       (passes-by (is_nothing (meaning_of own visible name)) name.line
@@ -353,27 +359,37 @@ module _ (own : Cat Name) (visible : List Local) (k : P.Scope) (agrees : Agrees 
       (P.kind_in k) d') ≡ Some kind →
       NodeClaim (roll-Node Name d)
   unfolding NodeClaim
-  leaf-claim d d' kind same typed numbered unknown novalue lines = node-known d d' kind same typed numbered
+  leaf-claim d d' kind same typed numbered unknown novalue lines sized =
+      node-known d d' kind same typed numbered
+
+  -- a literal of 64 bits
+  int-claim : (z : ℤ) → NodeClaim (roll-Node Name (L.Int z))
+  unfolding NodeClaim
+  int-claim z unknown novalue lines sized =
+      node-known (L.Int z) (L.Int z) K.Int (sym (rolls-Int z)) refl
+      (ap (λ (t : Bool). if t then Some K.Int else None) (sym (numbers-roll (L.Int z)) ∙ sized))
 
   -- by the layer of a node, and of an expression, whose parts have it
   node-step : (y : Node-F Name ((n : Node Name) × NodeClaim n) ((e : Expr Name) × Claim e)) →
       NodeClaim (roll-Node Name
       (map-Node Name ((n : Node Name) × NodeClaim n) ((e : Expr Name) × Claim e) (Node Name) (Expr Name)
       (λ e. e.0) (λ e. e.0) y))
-  node-step (L.Int z) = leaf-claim (L.Int z) (L.Int z) K.Int (sym (rolls-Int z)) refl refl
+  node-step (L.Int z) = int-claim z
   node-step (L.Bool b) = leaf-claim (L.Bool b) (L.Bool b) K.Bool (sym (rolls-Bool b)) refl refl
   node-step L.Empty = leaf-claim L.Empty L.Empty K.Seq (sym rolls-Empty) refl refl
   node-step (L.Name name) = name-claim name
   node-step (L.Neg e) =
       one-claim (L.Neg e.0) (L.Neg (N.expression own visible e.0)) e.0 K.Int K.Int e.1
-      (λ at. names-roll at (L.Neg e.0)) refl (sym (rolls-Neg (N.expression own visible e.0))) refl
+      (λ at. names-roll at (L.Neg e.0)) (numbers-roll (L.Neg e.0)) refl
+      (sym (rolls-Neg (N.expression own visible e.0))) refl
   node-step (L.Not e) =
       one-claim (L.Not e.0) (L.Not (N.expression own visible e.0)) e.0 K.Bool K.Bool e.1
-      (λ at. names-roll at (L.Not e.0)) refl (sym (rolls-Not (N.expression own visible e.0))) refl
+      (λ at. names-roll at (L.Not e.0)) (numbers-roll (L.Not e.0)) refl
+      (sym (rolls-Not (N.expression own visible e.0))) refl
   node-step (L.Two op l r) = two-claim op l.0 r.0 l.1 r.1
   node-step (L.One fun e) =
       one-claim (L.One fun e.0) (L.One fun (N.expression own visible e.0)) e.0 K.Seq (T.given_by fun) e.1
-      (λ at. names-roll at (L.One fun e.0)) refl
+      (λ at. names-roll at (L.One fun e.0)) (numbers-roll (L.One fun e.0)) refl
       (sym (rolls-One fun (N.expression own visible e.0)))
       (ap (λ g. P.where_of K.Seq (P.kind_in k (N.expression own visible e.0)) g) (fun-kind fun))
 
@@ -385,7 +401,8 @@ module _ (own : Cat Name) (visible : List Local) (k : P.Scope) (agrees : Agrees 
       (roll-Expr Name (map-Expr Name ((n : Node Name) × NodeClaim n) ((e : Expr Name) × Claim e) (Node Name)
       (Expr Name) (λ e. e.0) (λ e. e.0) y)) y.node.1
 
-  -- an expression without unknown names, without names that are no values, and without wrong types
+  -- an expression without unknown names, without names that are no values, and without wrong types, whose
+  -- numbers have 64 bits
   pub has_kind : (e : Expr Name) → Claim e
   has_kind = ind-Expr Name NodeClaim Claim
       (λ x y is. subst (λ d. NodeClaim (roll-Node Name d)) is (node-step y))

@@ -2,7 +2,8 @@
 use Rattle.std.specs.Prelude.{◌≡◌, ◌≢◌, ℕ, zero, suc, ◌+◌, ◌<◌, ◌≤◌, ◌==◌, nat_lt, Bool, true, false, ◌&&◌}
 use Rattle.std.specs.Prelude.{◌||◌, not, if◌then◌else◌, List, [], ◌∷◌, ◌++◌, map, length, codes, take}
 use Rattle.std.specs.Prelude.{slice_get, Option, None, Some, option_map, option_and_then, unwrap_or, All}
-use Rattle.std.specs.Prelude.{is_none, Result, Ok, Err, IfOk}
+use Rattle.std.specs.Prelude.{is_none, Result, Ok, Err, IfOk, IsTrue, pos}
+use Rattle.std.specs.Cmp.Derive.{both_true}
 use Rattle.std.specs.List.{flat_map, AllByRecursion, count_by, find, list_any, position_from}
 use Rattle.std.specs.Str.{bytes_eq}
 use Rattle.std.proofs.lemmas.Slice.Eq.{bytes_eq-Decides}
@@ -12,18 +13,24 @@ use Rattle.seuss_program.specs.declared.tree.Name.{Name}
 use Rattle.seuss_program.specs.declared.tree.Ref.{Ref}
 use Rattle.seuss_program.specs.declared.tree.Ref.TheVariants as R
 use Rattle.seuss_program.specs.declared.tree.Kind.{Kind}
+use Rattle.seuss_program.specs.declared.tree.Op.{Op}
 use Rattle.seuss_program.specs.declared.tree.Op.TheVariants as O
+use Rattle.seuss_program.specs.declared.tree.Fun.{Fun}
 use Rattle.seuss_program.specs.declared.tree.Fun.TheVariants as U
 use Rattle.seuss_program.specs.declared.tree.Var.{Var}
 use Rattle.seuss_program.specs.declared.tree.Param.{Param}
 use Rattle.seuss_program.specs.declared.tree.Expr.{Expr}
+use Rattle.seuss_program.specs.declared.tree.Node.TheOpen as L
+use Rattle.seuss_program.specs.declared.tree.Node.TheVariants as NV
+use Rattle.seuss_program.specs.declared.tree.Node.TheVariants.{rolls-Int, rolls-Name, rolls-Two, rolls-One}
 use Rattle.seuss_program.specs.declared.tree.Statement.TheVariants as SV
 use Rattle.seuss_program.specs.declared.tree.Statement.TheVariants.{rolls-Assign}
 use Rattle.seuss_program.specs.declared.tree.Statement.TheOpen as S
 use Rattle.seuss_program.specs.declared.tree.Alternative.{Alternative}
 use Rattle.seuss_program.specs.WellFormed as WF
 use Rattle.seuss_program.specs.WellFormed.{IsSmall, let_kinds, IsWellFormedProcedure, IsWellFormedCat}
-use Rattle.seuss_program.specs.WellFormed.{IsWellFormed}
+use Rattle.seuss_program.specs.WellFormed.{IsWellFormed, has_numbers, statement_numbers}
+use Rattle.seuss_program.specs.Values.{fits, HasSize}
 use Rattle.seuss_program.specs.declared.tree.Given.{Given}
 use Rattle.seuss_program.specs.declared.tree.Form.{Form}
 use Rattle.seuss_program.specs.declared.tree.Form.TheVariants as F
@@ -48,7 +55,7 @@ use Rattle.box_types.specs.Limits as Li
 use Rattle.box_types.specs.Namings as N
 use Rattle.box_types.specs.Actions as Re
 use Rattle.box_types.specs.BuiltInTexts.{with_built_ins, input, output, read, write, queue, assignment}
-use Rattle.box_types.specs.BuiltInTexts.{of_queue, use_of, two}
+use Rattle.box_types.specs.BuiltInTexts.{of_queue, use_of, two, word, expression}
 use Rattle.box_types.specs.Refusals.{IsAccepted}
 use Rattle.box_types.specs.Unknown.{unknown_at}
 use Rattle.box_types.specs.WrongKind.{kind_at}
@@ -65,6 +72,8 @@ use Rattle.call_order.specs.declared.refusal.OrderRefusal.{OrderRefusal}
 use Rattle.call_order.specs.Levels.{set_levels, leveled_at, levels_after, level_above}
 use Rattle.call_order.proofs.CallLemmas.{lines-Assign}
 use Rattle.call_order.proofs.LevelLemmas.{set-length}
+use Rattle.call_order.proofs.NumberLemmas.{numbers-by, statement-roll}
+use Rattle.call_order.proofs.NumberPlaces.{number_at, found_sized}
 use Rattle.call_order.proofs.KeptJoins.{found_join}
 use Rattle.call_order.proofs.KeptExpressions.{none-left, none-right, passes-by}
 use Rattle.call_order.proofs.KeptCalls.{all_at, Clean, clean_by, At, at-number, get-map, find-position}
@@ -438,6 +447,26 @@ read-lets : flat_map let_kinds
 read-lets = ap (λ l. l ++ (let_kinds (assignment (codes "q") (of_queue U.Rest)) ++ []))
     (no-locals _ (of_queue U.First)) ∙ ap (λ l. l ++ []) (no-locals _ (of_queue U.Rest))
 
+-- an expression that is a name has no number
+use-sized : (text : List ℕ) → has_numbers (use_of text) ≡ true
+use-sized text = numbers-by (use_of text) (L.Name (word text)) (rolls-Name (word text))
+
+-- nor has one of the queue
+queue-sized : (fun : Fun) → has_numbers (of_queue fun) ≡ true
+queue-sized fun = numbers-by (of_queue fun) (L.One fun (use_of (codes "q")))
+    (rolls-One fun (use_of (codes "q"))) ∙ use-sized (codes "q")
+
+-- an operator whose parts have numbers of 64 bits has them
+two-sized : (op : Op) (l r : Expr Name) → has_numbers l ≡ true → has_numbers r ≡ true →
+    has_numbers (two op l r) ≡ true
+two-sized op l r h k = numbers-by (two op l r) (L.Two op l r) (rolls-Two op l r) ∙ both_true h k
+
+-- and an assignment whose expression has them
+assignment-sized : (text : List ℕ) (e : Expr Name) → has_numbers e ≡ true →
+    statement_numbers (assignment text e) ≡ true
+assignment-sized text e h = ap statement_numbers (sym (rolls-Assign (word text) e))
+    ∙ (statement-roll (S.Assign (word text) e) ∙ h)
+
 read-formed : IsWellFormedProcedure read
 read-formed = record {
   params = all-by (λ (x : Param). IsSmall x.kind) [] tt;
@@ -445,6 +474,11 @@ read-formed = record {
     some = (λ e. absurd (cc));
     bodies = single (λ (a : Alternative Name). WF.HasSmallLocals a.body) _ (none-small _ read-lets);
   };
+  numbers = both_true (both_true
+      (two-sized O.Gt (of_queue U.Len) (expression (NV.Int (pos 0))) (queue-sized U.Len)
+      (numbers-by (expression (NV.Int (pos 0))) (L.Int (pos 0)) (rolls-Int (pos 0))))
+      (both_true (assignment-sized (codes "result") (of_queue U.First) (queue-sized U.First))
+      (both_true (assignment-sized (codes "q") (of_queue U.Rest) (queue-sized U.Rest)) refl))) refl;
 }
 
 write-formed : IsWellFormedProcedure write
@@ -452,10 +486,38 @@ write-formed = record {
   params = single (λ (x : Param). IsSmall x.kind) _ tt;
   form = none-small _ (ap (λ l. l ++ [])
       (no-locals _ (two O.Add (use_of (codes "q")) (use_of (codes "x")))));
+  numbers = both_true (assignment-sized (codes "q") (two O.Add (use_of (codes "q")) (use_of (codes "x")))
+      (two-sized O.Add (use_of (codes "q")) (use_of (codes "x")) (use-sized (codes "q"))
+      (use-sized (codes "x")))) refl;
 }
 
 queue-formed : All (λ (v : Var). WF.HasKind v.start v.kind) queue
 queue-formed = single (λ (v : Var). WF.HasKind v.start v.kind) _ refl
+
+-- the queue begins with no number
+no-numbers : All (λ (v : Var). HasSize v.start) queue
+no-numbers = single (λ (v : Var). HasSize v.start) _ (all-by (λ z. IsTrue (fits z)) [] tt)
+
+-- the cat of the input is well formed
+input-formed : IsWellFormedCat input
+input-formed = record {
+  starts = queue-formed;
+  sizes = no-numbers;
+  procs = single IsWellFormedProcedure read read-formed;
+}
+
+-- and that of the output
+output-formed : IsWellFormedCat output
+output-formed = record {
+  starts = queue-formed;
+  sizes = no-numbers;
+  procs = single IsWellFormedProcedure write write-formed;
+}
+
+-- a text that is well formed is so with the built-in cats
+built-ins-formed : (tree : Tree) → IsWellFormed tree → IsWellFormed (with_built_ins tree)
+built-ins-formed tree formed = all-by IsWellFormedCat (with_built_ins tree).cats
+    (input-formed, (output-formed, by-all IsWellFormedCat tree.cats formed))
 
 input-sound : (cats : List (Cat Name)) → IsSound cats input
 input-sound cats = sound-cat cats input refl
@@ -464,23 +526,25 @@ input-sound cats = sound-cat cats input refl
     (lines-Assign (lines_of cats [] C.is_partial) _ _ (of_queue U.First) refl)
     ∙ ap (λ l. ((l ++ []) ++ []) ++ [])
     (lines-Assign (lines_of cats [] C.is_partial) _ _ (of_queue U.Rest) refl))
-    (record { starts = queue-formed; procs = single IsWellFormedProcedure read read-formed })
+    input-formed
 
 output-sound : (cats : List (Cat Name)) → IsSound cats output
 output-sound cats = sound-cat cats output refl
     (ap (λ l. (l ++ []) ++ [])
     (lines-Assign (lines_of cats [] C.is_partial) _ _
     (two O.Add (use_of (codes "q")) (use_of (codes "x"))) refl))
-    (record { starts = queue-formed; procs = single IsWellFormedProcedure write write-formed })
+    output-formed
 
 -- every place of a text that passes the checks passes all of them
-all-found : (tree : Tree) → IsAccepted tree → W.found all_at (with_built_ins tree) ≡ []
-all-found tree a =
-    found_join unknown_at (λ x. kind_at x ++ (type_at x ++ (arguments_at x ++ count_at x)))
+all-found : (tree : Tree) → IsWellFormed tree → IsAccepted tree → W.found all_at (with_built_ins tree) ≡ []
+all-found tree formed a =
+    found_join number_at (λ x. unknown_at x ++ (kind_at x ++ (type_at x ++ (arguments_at x ++ count_at x))))
+    (with_built_ins tree) (found_sized (with_built_ins tree) (built-ins-formed tree formed))
+    (found_join unknown_at (λ x. kind_at x ++ (type_at x ++ (arguments_at x ++ count_at x)))
     (with_built_ins tree) a.unknown
     (found_join kind_at (λ x. type_at x ++ (arguments_at x ++ count_at x)) (with_built_ins tree) a.wrong_kind
     (found_join type_at (λ x. arguments_at x ++ count_at x) (with_built_ins tree) a.wrong_type
-    (found_join arguments_at count_at (with_built_ins tree) a.arguments a.count)))
+    (found_join arguments_at count_at (with_built_ins tree) a.arguments a.count))))
 
 sound-cats : (tree : Tree) → IsWellFormed tree → partial_calls tree ≡ [] → total_calls tree ≡ [] →
     AllByRecursion (IsSound (with_built_ins tree).cats) (with_built_ins tree).cats
@@ -544,7 +608,7 @@ keeps_by tree formed accepted partials totals levels =
     let ns : List ℕ = levels_after infos (length infos + 1) in
     let count : length ns ≡ length infos = levels-count infos (length infos) (length infos + 1) refl in
     let infos_count : length infos ≡ length boxes = map-length (N.box_info cats boxes) boxes in
-    let all : W.found all_at (with_built_ins tree) ≡ [] = all-found tree accepted in
+    let all : W.found all_at (with_built_ins tree) ≡ [] = all-found tree formed accepted in
     let on_cats : W.numbered (W.cat all_at cats) 0 cats ≡ [] =
     none-left _ (W.numbered (W.box all_at cats boxes) 0 boxes) all in
     let on_boxes : W.numbered (W.box all_at cats boxes) 0 boxes ≡ [] =
@@ -595,12 +659,12 @@ few_boxes_by tree accepted =
     let boxes : List BoxDecl = tree.boxes in
     let infos_count : length (map (N.box_info cats boxes) boxes) ≡ length boxes =
     map-length (N.box_info cats boxes) boxes in
-    let on_boxes : W.numbered (W.box all_at cats boxes) 0 boxes ≡ [] =
-    none-right (W.numbered (W.cat all_at cats) 0 cats) _ (all-found tree accepted) in
+    let on_boxes : W.numbered (W.box count_at cats boxes) 0 boxes ≡ [] =
+    none-right (W.numbered (W.cat count_at cats) 0 cats) _ accepted.count in
     let few : 0 + length boxes ≤ 128 =
-    few-numbered (W.box all_at cats boxes) 128
+    few-numbered (W.box count_at cats boxes) 128
     (λ m b h. away m (Li.passes cats (take m boxes) b) b.name.line 128
-    (clean_by (BoxName cats boxes m b) (none-left _ _ h)).count) 0 boxes (omega arith) on_boxes in
+    (none-left (count_at (BoxName cats boxes m b)) _ h)) 0 boxes (omega arith) on_boxes in
     omega (arith, few, infos_count)
 
 -- the program that is answered keeps it

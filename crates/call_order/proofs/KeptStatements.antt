@@ -45,6 +45,7 @@ use Rattle.call_order.proofs.KeptExpressions.{none-left, none-right, passes-by, 
 use Rattle.call_order.proofs.KeptExpressions.{has_kind, part-known}
 use Rattle.call_order.proofs.KeptCalls.{all_at, Clean, clean_by, SeesCat, Named, kept_call, call_fits}
 use Rattle.call_order.proofs.KeptCalls.{set_kind, takes_result, or_meaning, in-text}
+use Rattle.call_order.proofs.NumberPlaces.{sized-by}
 
 -- a place that doesn't pass a limit isn't at it
 pub not-limit : (n limit line : ℕ) → fails (n == limit) line ≡ [] → n ≢ limit
@@ -355,7 +356,7 @@ module _ (cats : List (Cat Name)) (own : Cat Name) (number : ℕ) (k : P.Scope)
   value_kept visible wanted e sees clean =
       let agrees : Agrees own visible k = agrees_by k own visible in_cat sees in
       part-known own visible k agrees e wanted (has_kind own visible k agrees e) clean.unknown clean.kind
-      clean.type
+      clean.type (sized-by e clean.number)
 
   pub both-true : (a b : Bool) → a ≡ true → b ≡ true → (a && b) ≡ true
   both-true a b h g = ap (λ t. t && b) h ∙ g

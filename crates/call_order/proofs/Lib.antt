@@ -9,4 +9,6 @@ pub mod KeptPrograms
 pub mod KeptStatements
 pub mod LevelLemmas
 pub mod MarkLemmas
+pub mod NumberLemmas
+pub mod NumberPlaces
 pub mod OrderLemmas

@@ -7,7 +7,7 @@ use Rattle.std.specs.Int.{w64, int_wrap}
 use Rattle.std.specs.Int.RustNames.{FitsSigned}
 use Rattle.std.specs.Ordering.{int_eq}
 use Rattle.std.proofs.lemmas.Int.{ints, int_wrap_fits, SFits-int_wrap}
-use Rattle.std.proofs.lemmas.Bool.{ltb-true, lt-ltb, and_parts}
+use Rattle.std.proofs.lemmas.Bool.{ltb-true, and_parts}
 use Rattle.std.proofs.lemmas.Bool.Decides.{Decides-int_eq, same_from_decides}
 use Rattle.seuss_program.specs.declared.tree.Op.{Op}
 use Rattle.seuss_program.specs.declared.tree.Op.TheVariants as O
@@ -25,6 +25,7 @@ use Rattle.shape_terms.specs.Numbers.{number, total, lengths_at, is_zero, litera
 use Rattle.shape_terms.specs.Sequences.{numbers, items, at_literal, len, TakesAt}
 use Rattle.shape_terms.specs.Symbols.{value_at}
 use Rattle.shape_terms.proofs.Products.{nothing_times}
+use Rattle.shape_terms.proofs.Bits.{signed}
 use Rattle.shape_terms.proofs.Wraps.{same_sums, same_fitting}
 use Rattle.shape_terms.proofs.NumberLemmas.{number_minus}
 use Rattle.shape_terms.proofs.LengthLemmas.{number_of_literal, length_of_numbers}
@@ -46,15 +47,6 @@ not_told why x h = cc
 
 not_found : {A : Type 0} (refusal : FormRefusal) (x : A) → Err refusal ≡ Ok x → ⊥
 not_found refusal x h = cc
-
--- a number that fits, in the words of the integer types
-pub signed : (z : ℤ) → V.fits z ≡ true → FitsSigned w64 z
-signed (pos n) h = record { sfits = ltb-true n (2 ^ 63) h }
-signed (negsuc n) h = record { sfits = ltb-true n (2 ^ 63) h }
-
-pub fitting : (z : ℤ) → FitsSigned w64 z → V.fits z ≡ true
-fitting (pos n) h = lt-ltb n (2 ^ 63) h.sfits
-fitting (negsuc n) h = lt-ltb n (2 ^ 63) h.sfits
 
 -- a literal that fits is its number at every point
 pub number_fits : (z : ℤ) (p : Point) → V.fits z ≡ true → number (literal z) p ≡ z

@@ -1,6 +1,6 @@
 -- What is found over all cases is the verdict.
 use Rattle.std.proofs.Common.{◌≡◌, Bool, true, false, ◌&&◌, not, List, Option, None, Some, Result, Ok, Err}
-use Rattle.std.proofs.Common.{All, IsTrue, refl, sym, ap, subst, ◌∙◌, true≢false}
+use Rattle.std.proofs.Common.{IsTrue, refl, sym, ap, subst, ◌∙◌, true≢false}
 use Rattle.std.specs.List.{Contains}
 use Rattle.seuss_base.specs.declared.level.Level.TheVariants as L
 use Rattle.std.specs.Prelude.{IfOk}
@@ -9,13 +9,10 @@ use Rattle.seuss_program.specs.declared.tree.Ref.{Ref}
 use Rattle.seuss_program.specs.declared.tree.Proc.{Proc}
 use Rattle.method_code.specs.Singles.{is_single}
 use Rattle.seuss_program.specs.declared.state.Value.{Value}
-use Rattle.seuss_program.specs.declared.state.Value.TheVariants as V
-use Rattle.seuss_program.specs.Keeping.{var_kinds, param_kinds}
-use Rattle.method_code.specs.Beside.{HasSize}
+use Rattle.seuss_program.specs.Keeping.{AreOf, var_kinds, param_kinds}
 use Rattle.shape_terms.specs.declared.case.Case.{Case}
 use Rattle.shape_terms.specs.Points.{Point, HasNumbers, point_of}
 use Rattle.shape_terms.specs.Symbols.{values_at, IsOf}
-use Rattle.shape_terms.specs.Covers.{HasBits, AreOf}
 use Rattle.shape_terms.specs.Cases.{Pair, cases_of}
 use Rattle.commute_certs.specs.declared.why.Reason.{Reason}
 use Rattle.commute_certs.specs.declared.why.Reason.TheVariants as R
@@ -28,35 +25,20 @@ use Rattle.commute_certs.specs.Foreseen.{is_plain, run_at}
 use Rattle.commute_certs.specs.Decisions.{Difference, LooseDifference, IsFound, Sees, Seen, Untellable}
 use Rattle.commute_certs.specs.Decisions.{Decides, By, Fails, verdict_by, why_by}
 use Rattle.commute_certs.specs.Verdicts.{both_single, too_many, is_told, IsPlain, Refutes, IsVerdict}
-use Rattle.commute_certs.proofs.Comparisons.{signed, fitting}
 use Rattle.commute_certs.proofs.OrderLemmas.{runs_of, commutes, agrees, first_is}
 
--- what holds of all items, in other words
-all_of : {X : Type 0} (P Q : X → Type 0) → ((x : X) → P x → Q x) → (xs : List X) → All P xs → All Q xs
-all_of P Q f xs a = λ k d less. f _ (a k d less)
-
-bits_of : (v : Value) → HasSize v → HasBits v
-bits_of (V.Int z) h = signed z h
-bits_of (V.Bool b) h = tt
-bits_of (V.Seq zs) h = all_of _ _ (λ z. signed z) zs h
-
-size_of : (v : Value) → HasBits v → HasSize v
-size_of (V.Int z) h = fitting z h
-size_of (V.Bool b) h = tt
-size_of (V.Seq zs) h = all_of _ _ (λ z. fitting z) zs h
-
 module _ (pair : Pair)
-    (covers : (state args others : List Value) → AreOf (var_kinds pair.cat.vars) state →
-    AreOf (param_kinds pair.first.params) args →
-    AreOf (param_kinds pair.second.params) others →
+    (covers : (state args others : List Value) → AreOf state (var_kinds pair.cat.vars) →
+    AreOf args (param_kinds pair.first.params) →
+    AreOf others (param_kinds pair.second.params) →
     (c : Case) × (at : Point) × Contains (cases_of pair) c × HasNumbers at × IsOf c at state args
     others)
     (states : (c : Case) (at : Point) → Contains (cases_of pair) c → HasNumbers at →
-    AreOf (var_kinds pair.cat.vars) (values_at c.vars at))
+    AreOf (values_at c.vars at) (var_kinds pair.cat.vars))
     (firsts : (c : Case) (at : Point) → Contains (cases_of pair) c → HasNumbers at →
-    AreOf (param_kinds pair.first.params) (values_at c.first at))
+    AreOf (values_at c.first at) (param_kinds pair.first.params))
     (seconds : (c : Case) (at : Point) → Contains (cases_of pair) c → HasNumbers at →
-    AreOf (param_kinds pair.second.params) (values_at c.second at))
+    AreOf (values_at c.second at) (param_kinds pair.second.params))
     (single : IsTrue (both_single pair)) (few : too_many pair ≡ None) (found : Found)
     (seen : Seen pair.first pair.second (cases_of pair) found) where
   pub plain : IsPlain pair
@@ -75,14 +57,9 @@ module _ (pair : Pair)
       (subst (λ a. Commute pair.first pair.second args a (values_at c.vars p)) of.second
       (subst (λ a. Commute pair.first pair.second a (values_at c.second p) (values_at c.vars p)) of.first k))
 
-  state_of : (state : List Value) → IsState pair.cat state → AreOf (var_kinds pair.cat.vars) state
-  state_of state s = record { same = s.kinds; bits = all_of HasSize HasBits bits_of state s.sizes }
-
   firm_holds : found.differs ≡ false → HoldsAt pair.cat L.Firm pair.first pair.second
   firm_holds h args others state s a b asked =
-      let v = covers state args others (state_of state s)
-      (record { same = a.kinds; bits = all_of HasSize HasBits bits_of args a.sizes })
-      (record { same = b.kinds; bits = all_of HasSize HasBits bits_of others b.sizes }) in
+      let v = covers state args others s a b in
       let e : Sees pair.first pair.second v.0 found = seen.each v.0 v.2 in
       from_point v.0 v.1 state args others v.4
       (commutes pair.first pair.second v.0 e.both v.1 (runs_of pair.first pair.second v.0 e.both e.told)
@@ -94,9 +71,7 @@ module _ (pair : Pair)
 
   loose_holds : found.loose ≡ None → HoldsAt pair.cat L.Loose pair.first pair.second
   loose_holds h args others state s a b asked =
-      let v = covers state args others (state_of state s)
-      (record { same = a.kinds; bits = all_of HasSize HasBits bits_of args a.sizes })
-      (record { same = b.kinds; bits = all_of HasSize HasBits bits_of others b.sizes }) in
+      let v = covers state args others s a b in
       let e : Sees pair.first pair.second v.0 found = seen.each v.0 v.2 in
       let runs = runs_of pair.first pair.second v.0 e.both e.told in
       let same : alone pair.first args state ≡ run_at e.both.first v.1 =
@@ -128,9 +103,9 @@ module _ (pair : Pair)
       (subst (λ ys. Refutes pair (values_at d.one.vars (point_of d.at))
       (values_at d.one.first (point_of d.at)) ys) (sym e.second)
       (record {
-        state = record { kinds = s.same; sizes = all_of HasBits HasSize size_of _ s.bits };
-        args = record { kinds = a.same; sizes = all_of HasBits HasSize size_of _ a.bits };
-        others = record { kinds = b.same; sizes = all_of HasBits HasSize size_of _ b.bits };
+        state = s;
+        args = a;
+        others = b;
         loose = ap (λ (r : Alone). r.plain)
             (first_is pair.first pair.second d.one d.both (point_of d.at)
             (runs_of pair.first pair.second d.one d.both d.told)) ∙ e.loose;
@@ -143,9 +118,7 @@ module _ (pair : Pair)
       let s = states d.one (point_of d.at) d.there d.numbers in
       let a = firsts d.one (point_of d.at) d.there d.numbers in
       let b = seconds d.one (point_of d.at) d.there d.numbers in
-      refutes d (h _ _ _ (record { kinds = s.same; sizes = all_of HasBits HasSize size_of _ s.bits })
-      (record { kinds = a.same; sizes = all_of HasBits HasSize size_of _ a.bits })
-      (record { kinds = b.same; sizes = all_of HasBits HasSize size_of _ b.bits }) refl)
+      refutes d (h _ _ _ s a b refl)
 
   pub verdict : IsVerdict pair (verdict_by found.differs found.loose)
   verdict = by found.differs found.loose refl refl
@@ -172,17 +145,17 @@ unclear pair R.NotShown single few e =
 
 -- what is decided over all cases is the verdict
 pub decided : (pair : Pair) →
-    ((state args others : List Value) → AreOf (var_kinds pair.cat.vars) state →
-    AreOf (param_kinds pair.first.params) args →
-    AreOf (param_kinds pair.second.params) others →
+    ((state args others : List Value) → AreOf state (var_kinds pair.cat.vars) →
+    AreOf args (param_kinds pair.first.params) →
+    AreOf others (param_kinds pair.second.params) →
     (c : Case) × (at : Point) × Contains (cases_of pair) c × HasNumbers at × IsOf c at state args
     others) →
     ((c : Case) (at : Point) → Contains (cases_of pair) c → HasNumbers at →
-    AreOf (var_kinds pair.cat.vars) (values_at c.vars at)) →
+    AreOf (values_at c.vars at) (var_kinds pair.cat.vars)) →
     ((c : Case) (at : Point) → Contains (cases_of pair) c → HasNumbers at →
-    AreOf (param_kinds pair.first.params) (values_at c.first at)) →
+    AreOf (values_at c.first at) (param_kinds pair.first.params)) →
     ((c : Case) (at : Point) → Contains (cases_of pair) c → HasNumbers at →
-    AreOf (param_kinds pair.second.params) (values_at c.second at)) →
+    AreOf (values_at c.second at) (param_kinds pair.second.params)) →
     IsTrue (both_single pair) → too_many pair ≡ None → (v : Verdict) →
     Decides pair.first pair.second (cases_of pair) v → IsVerdict pair v
 decided pair covers states firsts seconds single few v (By found seen is) =

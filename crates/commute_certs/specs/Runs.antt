@@ -12,9 +12,8 @@ use Rattle.seuss_program.specs.declared.state.State.{State}
 use Rattle.seuss_program.specs.Programs.{vars_of}
 use Rattle.seuss_program.specs.Bodies.{Called}
 use Rattle.seuss_program.specs.Attempts.{attempt, attempt_of, entry_slots}
-use Rattle.seuss_program.specs.Keeping.{kind_of, var_kinds, param_kinds}
+use Rattle.seuss_program.specs.Keeping.{AreOf, var_kinds, param_kinds}
 use Rattle.method_code.specs.Singles.{is_plainly_rejected}
-use Rattle.method_code.specs.Beside.{HasSize}
 
 -- a program without boxes: a single procedure calls none
 abbrev pub nothing : Program
@@ -44,14 +43,12 @@ alone q args vars = record {
 }
 
 -- a state of a cat: values of the kinds of its variables, whose numbers have 64 bits
-pub record IsState (c : Cat Ref) (vars : List Value) : Type 0 where
-  pub kinds : map kind_of vars ≡ var_kinds c.vars
-  pub sizes : All HasSize vars
+abbrev pub IsState : Cat Ref → List Value → Type 0
+IsState c vars = AreOf vars (var_kinds c.vars)
 
 -- arguments of a method
-pub record AreArguments (q : Proc Ref) (args : List Value) : Type 0 where
-  pub kinds : map kind_of args ≡ param_kinds q.params
-  pub sizes : All HasSize args
+abbrev pub AreArguments : Proc Ref → List Value → Type 0
+AreArguments q args = AreOf args (param_kinds q.params)
 
 -- two runs end alike
 pub record EndAlike (r s : Alone) : Type 0 where

@@ -153,8 +153,7 @@ module _ (p : Program)
           Facts (two (one vars).vars) (alone n others vs) (number_of p box second) left_over)
           f.vars (facts second n others left_over (one vars).vars here other) in
           let k : R.Commute m n args others vars = holds args others vars
-          (record { kinds = may.kinds ∙ ap vars_in cat; sizes = may.sizes })
-          (record { kinds = a.kinds; sizes = a.sizes }) (record { kinds = b.kinds; sizes = b.sizes })
+          (record { kinds = may.kinds ∙ ap vars_in cat; sizes = may.sizes }) a b
           (subst (λ t. IsTrue t) (asks_same level (one vars).end (alone m args vars).plain f.plain)
           asked) in
           record {

@@ -31,7 +31,7 @@ use Rattle.method_code.specs.Kinds.{Early, Commit, Late, kind_of, kind_by, is_la
 use Rattle.method_code.specs.Kinds.{begins_total, IsAction}
 use Rattle.method_code.specs.Kinds as KS
 use Rattle.method_code.specs.Singles.{is_single}
-use Rattle.method_code.specs.Beside.{MayHave, Start, from, asks, Swaps, Semicommutes, MayBegin, AtEntry}
+use Rattle.method_code.specs.Beside.{Start, from, asks, Swaps, Semicommutes, MayBegin, AtEntry}
 use Rattle.method_code.specs.Beside.{AtPlace, SafeBeside}
 use Rattle.compat_matrix.proofs.NamedMethods.{holds_there}
 use Rattle.method_code.proofs.Places.{stands, coded, scope, keeps_procedure, calls_below}
@@ -86,7 +86,7 @@ module _ (p : Program) (keeps : Keeps p)
       let cat : cat_of p box ≡ Some at.cat =
       ap (λ o. option_and_then (λ (b : BoxInfo). slice_get p.cats b.cat) o) at.box_there
       ∙ at.cat_there in
-      let many : length (map K.kind_of vars) ≡ length (var_kinds at.cat.vars) = ap length has
+      let many : length (map K.kind_of vars) ≡ length (var_kinds at.cat.vars) = ap length has.kinds
       ∙ ap (λ o. length (vars_in o)) cat in
       let few = (holds_there (KeepsCat p.cats) p.cats at.info.cat at.cat at.cat_there keeps.cats).few_vars in
       omega (arith, many, few, length-map vars K.kind_of, length-map at.cat.vars (λ v. v.kind))
@@ -94,8 +94,8 @@ module _ (p : Program) (keeps : Keeps p)
   module _ (box number : ℕ) (q : Proc Ref) (there : procedure_of p box number ≡ Some q) where
     -- a step of a procedure begins in its code
     begins_method : (frame : Frame) → MayBegin p box number q frame → frame.method ≡ number_of p box number
-    begins_method frame (AtEntry args kinds sizes is) = ap (λ (f : Frame). f.method) is
-    begins_method frame (AtPlace method later place sizes) = method
+    begins_method frame (AtEntry args are is) = ap (λ (f : Frame). f.method) is
+    begins_method frame (AtPlace method later place) = method
 
     coded_frame : (frame : Frame) → MayBegin p box number q frame →
         slice_get (compiled p) frame.method ≡ Some (method_code q)
@@ -186,9 +186,8 @@ module _ (p : Program) (keeps : Keeps p)
         IsTrue (is_single q.form) → (frame : Frame) (budget : ℕ) → MayBegin p box number q frame →
         ((args : List Value) × AreArguments q args × (frame ≡ entry (compiled p) (number_of p box number)
         args)) ⊎ OnlyRejects (compiled p) (record { frame = frame; budget = budget })
-    single_is box number q there single frame budget (AtEntry args kinds sizes is) =
-        inl (args, record { kinds = kinds; sizes = sizes }, is)
-    single_is box number q there single frame budget (AtPlace method after place sizes) =
+    single_is box number q there single frame budget (AtEntry args are is) = inl (args, are, is)
+    single_is box number q there single frame budget (AtPlace method after place) =
         inr (by (later q frame.place frame.slots after place))
       where
         by : (has_late q.form ≡ true) ⊎ ((frame.place ≡ 1) × (is_total q.form ≡ false)) → OnlyRejects
@@ -283,7 +282,7 @@ module _ (p : Program) (keeps : Keeps p)
                   Swaps (compiled p) x y vars
               ruled l found (Tested t) h = absurd (never_absurd h)
               ruled l found (Apart t _ k) h = apart_swaps (compiled p) m.form n.form x y from_first
-                  from_second vars (few_vars box first m there vars has.kinds) k
+                  from_second vars (few_vars box first m there vars has) k
               ruled l found (Certified t _ k) h =
                   commuting box first second m n by_certificate wanted there here
                   (sound.commute box first second m n by_certificate there here refl (λ e. never_absurd
@@ -296,12 +295,12 @@ module _ (p : Program) (keeps : Keeps p)
               by (inr r) rule = idle_second (compiled p) x y vars r
               by (inl l) rule = ruled l rule.0 rule.1 (pair rule.0 rule.1)
 
-          pub early_pair : (vars : List Value) → MayHave p box vars → kind_of (compiled p) x.frame
+          pub early_pair : (vars : List Value) → HasVars p box vars → kind_of (compiled p) x.frame
               (from (compiled p) x vars).end ≡ Early → Swaps (compiled p) x y vars
           early_pair vars has early =
               early_swaps (compiled p) m.form n.form x y (early_sets m x.frame x.budget
               (coded_frame box first m there x.frame begins)) from_second vars
-              (few_vars box first m there vars has.kinds) (λ h. by (tested_or_not part other m.form n.form)
+              (few_vars box first m there vars has) (λ h. by (tested_or_not part other m.form n.form)
               h)
               early
             where

@@ -1,5 +1,5 @@
 -- What a certificate of two procedures says of their steps.
-use Rattle.std.specs.Prelude.{◌≡◌, ◌≢◌, ℕ, List, map, All, IsTrue, Some, slice_get}
+use Rattle.std.specs.Prelude.{◌≡◌, ◌≢◌, ℕ, List, IsTrue, Some, slice_get}
 use Rattle.seuss_base.specs.declared.level.Level.{Level}
 use Rattle.seuss_base.specs.declared.level.Level.TheVariants.{Never}
 use Rattle.seuss_program.specs.declared.tree.Ref.{Ref}
@@ -7,17 +7,16 @@ use Rattle.seuss_program.specs.declared.tree.Proc.{Proc}
 use Rattle.seuss_program.specs.declared.program.Program.{Program}
 use Rattle.seuss_program.specs.declared.state.Value.{Value}
 use Rattle.seuss_program.specs.Programs.{procedure_of}
-use Rattle.seuss_program.specs.Keeping.{kind_of, param_kinds}
+use Rattle.seuss_program.specs.Keeping.{AreOf, param_kinds}
 use Rattle.method_code.specs.Codes.{compiled, number_of, cat_number}
 use Rattle.method_code.specs.Steps.{entry}
 use Rattle.method_code.specs.Singles.{is_single}
-use Rattle.method_code.specs.Beside.{HasSize, Start, Semicommutes}
+use Rattle.method_code.specs.Beside.{Start, Semicommutes}
 use Rattle.compat_matrix.specs.Rule.{CertifiedLevels}
 
 -- arguments of a procedure
-pub record AreArguments (q : Proc Ref) (args : List Value) : Type 0 where
-  pub kinds : map kind_of args ≡ param_kinds q.params
-  pub sizes : All HasSize args
+abbrev pub AreArguments : Proc Ref → List Value → Type 0
+AreArguments q args = AreOf args (param_kinds q.params)
 
 -- a step from the entry of a procedure
 abbrev pub entering : Program → ℕ → ℕ → List Value → ℕ → Start

@@ -200,7 +200,7 @@ pub late_place : (p : Program) (box number : ℕ) (q : Proc Ref) (frame : Frame)
     is_late (compiled p) frame ≡ true →
     (K.is_total q.form ≡ true) ⊎
     ((has_late q.form ≡ true) ⊎ ((frame.place ≡ 1) × (K.is_total q.form ≡ false)))
-late_place p box number q frame there (AtEntry args fits sizes is) late =
+late_place p box number q frame there (AtEntry args are is) late =
     inl (form q.form (total (sym (ap (λ (f : Frame). is_late (compiled p) f) is) ∙ late)))
   where
     total : J.is_total (slice_get (compiled p) (number_of p box number)) ≡ true →
@@ -212,5 +212,5 @@ late_place p box number q frame there (AtEntry args fits sizes is) late =
     form (F.Total ss) h = refl
     form (F.Partial alts) h = h
     form (F.Action alts) h = h
-late_place p box number q frame there (AtPlace is later place sizes) late =
+late_place p box number q frame there (AtPlace is later place) late =
     inr (later_place q frame.place frame.slots later place)

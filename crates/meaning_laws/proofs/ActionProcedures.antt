@@ -13,9 +13,10 @@ use Rattle.seuss_program.specs.declared.state.State.{State}
 use Rattle.seuss_program.specs.Programs.{cat_of, procedure_of, level_of}
 use Rattle.seuss_program.specs.Attempts.{attempt, action_attempt, tight}
 use Rattle.seuss_program.specs.Keeping.{Keeps, HasForm, IsAlone, is_action, actions_among, actions_of}
-use Rattle.seuss_program.specs.Keeping.{procedures_in, param_kinds}
+use Rattle.seuss_program.specs.Keeping.{procedures_in, param_kinds, AreOf}
 use Rattle.meaning_laws.specs.Forms.{is_accepted}
 use Rattle.meaning_laws.proofs.CalledProcedures.{none-some, some-same, and-then-some, keeps-procedure}
+use Rattle.meaning_laws.proofs.CalledProcedures.{none-are}
 use Rattle.meaning_laws.proofs.KeptForms.{attempt-keeps-form}
 use Rattle.meaning_laws.proofs.Results.{attempt-has}
 
@@ -160,9 +161,10 @@ module _ (p : Program) (keeps : Keeps p) where
       by None is = form
       by (Some a) is =
           let q = performs action a is in
-          (attempt-keeps-form p keeps (suc (level_of p a.box_number))).by a.box_number a.procedure
+          ((attempt-keeps-form p keeps (suc (level_of p a.box_number))).by a.box_number a.procedure
           q.procedure [] state budget q.there
-          (sym (ap param_kinds (alone a.box_number a.procedure q).0)) form
+          (subst (AreOf []) (sym (ap param_kinds (alone a.box_number a.procedure q).0)) none-are)
+          form).state_is
 
   pub action-result : (action : ℕ) (state : State) (budget : ℕ) →
       (action_attempt p (slice_get p.actions action) state budget).result ≡ None

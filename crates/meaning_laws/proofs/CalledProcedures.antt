@@ -4,6 +4,7 @@ use Rattle.std.proofs.Common.{map, Option, None, Some, Ok, Err, IfOk, All, optio
 use Rattle.std.proofs.Common.{◌∙◌, subst, arith, append_assoc, true≢false}
 use Rattle.std.specs.Prelude.{slice_get}
 use Rattle.std.proofs.lemmas.List.{append-nil, map-append}
+use Rattle.std.proofs.lemmas.List.Elements.{All-nil, All-push}
 use Rattle.std.proofs.lemmas.Option.{slice_get_within, get_or_from_slice_get}
 use Rattle.seuss_program.specs.declared.program.Program.{Program}
 use Rattle.seuss_program.specs.declared.program.BoxInfo.{BoxInfo}
@@ -20,13 +21,13 @@ use Rattle.seuss_program.specs.declared.tree.Proc.{Proc}
 use Rattle.seuss_program.specs.declared.state.Value.{Value}
 use Rattle.seuss_program.specs.Programs.{cat_of, procedure_of, level_of, level_in, target_of, given_in}
 use Rattle.seuss_program.specs.Programs.{method_of}
-use Rattle.seuss_program.specs.Values.{Evaluated, value}
+use Rattle.seuss_program.specs.Values.{Evaluated, HasSize, value}
 use Rattle.seuss_program.specs.Bodies.{arguments_after, argument_then}
 use Rattle.seuss_program.specs.Keeping.{Scope, scope_of, Keeps, KeepsBox, KeepsCat, KeepsProcedure, kind_of}
 use Rattle.seuss_program.specs.Keeping.{kind_in, kind_set, is_of, is_kind, param_kinds, given_fit, is_box_of}
 use Rattle.seuss_program.specs.Keeping.{above, given_cat, cat_at, method_at, called, call_fits, meets}
-use Rattle.seuss_program.specs.Keeping.{arguments_fit, bind_fits}
-use Rattle.meaning_laws.specs.Kinds.{HaveKinds}
+use Rattle.seuss_program.specs.Keeping.{arguments_fit, bind_fits, AreOf}
+use Rattle.meaning_laws.specs.Kinds.{IsOf}
 use Rattle.meaning_laws.specs.Calls.{GoesDown, Matches}
 use Rattle.meaning_laws.proofs.ValueKinds.{Gives, value-gives}
 
@@ -203,30 +204,44 @@ module _ (p : Program) (keeps : Keeps p) (box : ℕ) (c : Cat Ref) (at : cat_of 
           slice_get p.cats b.cat ≡ Some d
       cat-kept b k d e h = ap (λ n. slice_get p.cats n) e ∙ h
 
+-- no values, of no kinds
+pub none-are : AreOf [] []
+none-are = record { kinds = refl; sizes = All-nil HasSize }
+
+-- values of some kinds, and one more
+one-more : (values : List Value) (kinds : List Kind) (v : Value) (k : Kind) → AreOf values kinds → IsOf v k →
+    AreOf (values ++ v ∷ []) (kinds ++ k ∷ [])
+one-more values kinds v k are is = record {
+  kinds =
+      map-append kind_of values (v ∷ [])
+      ∙ (ap (λ l. l ++ kind_of v ∷ []) are.kinds ∙ ap (λ j. kinds ++ j ∷ []) is.0);
+  sizes = All-push HasSize values v are.sizes is.1;
+}
+
 -- arguments that fit are of the kinds of the parameters
-module _ (s : Scope) (vars slots : List Value) (typed_vars : HaveKinds vars s.vars)
-    (typed_slots : HaveKinds slots s.slots) where
+module _ (s : Scope) (vars slots : List Value) (typed_vars : AreOf vars s.vars)
+    (typed_slots : AreOf slots s.slots) where
   args-after : (front : List Kind) (values : List Value) (es : List (Expr Ref)) (ks : List Kind) →
-      HaveKinds values front → IsTrue (arguments_fit s es ks) →
-      IfOk (arguments_after values es vars slots) (λ l. HaveKinds l (front ++ ks))
-  args-after front values [] [] h fit = h ∙ sym (append-nil front)
+      AreOf values front → IsTrue (arguments_fit s es ks) →
+      IfOk (arguments_after values es vars slots) (λ l. AreOf l (front ++ ks))
+  args-after front values [] [] h fit = subst (AreOf values) (sym (append-nil front)) h
   args-after front values [] (k ∷ ks) h fit = absurd (true≢false (sym fit))
   args-after front values (e ∷ es) [] h fit = absurd (true≢false (sym fit))
   args-after front values (e ∷ es) (k ∷ ks) h fit =
       by (value e vars slots)
       (value-gives s vars slots typed_vars typed_slots e k
       (is-of-some k (kind_in s e) (and-left (is_of k (kind_in s e)) (arguments_fit s es ks) fit)))
-      (λ v f. subst (λ l. IfOk (arguments_after (values ++ v ∷ []) es vars slots) (λ m. HaveKinds m l))
+      (λ v f. subst (λ l. IfOk (arguments_after (values ++ v ∷ []) es vars slots) (λ m. AreOf m l))
       (append_assoc front (k ∷ []) ks)
       (args-after (front ++ k ∷ []) (values ++ v ∷ []) es ks
-      (map-append kind_of values (v ∷ []) ∙ (ap (λ l. l ++ kind_of v ∷ []) h ∙ ap (λ j. front ++ j ∷ []) f))
+      (one-more values front v k h f)
       (and-right (is_of k (kind_in s e)) (arguments_fit s es ks) fit)))
     where
       by : (ev : Evaluated) → Gives ev k →
-          ((v : Value) → kind_of v ≡ k →
-          IfOk (arguments_after (values ++ v ∷ []) es vars slots) (λ m. HaveKinds m (front ++ k ∷ ks))) →
+          ((v : Value) → IsOf v k →
+          IfOk (arguments_after (values ++ v ∷ []) es vars slots) (λ m. AreOf m (front ++ k ∷ ks))) →
           IfOk (argument_then ev values (λ rest. arguments_after rest es vars slots))
-          (λ m. HaveKinds m (front ++ k ∷ ks))
+          (λ m. AreOf m (front ++ k ∷ ks))
       by (Err t) f go = tt
       by (Ok v) f go = go v f
 
@@ -256,7 +271,7 @@ module _ (s : Scope) (form : Form Ref → Bool) (bind : Option Ref) (call : Call
         record {
           args =
               λ vars slots typed_vars typed_slots.
-              args-after s vars slots typed_vars typed_slots [] [] call.args (param_kinds r.params) refl
+              args-after s vars slots typed_vars typed_slots [] [] call.args (param_kinds r.params) none-are
               (and-left (arguments_fit s call.args (param_kinds r.params)) (bind_fits s bind r.gives) both);
           bound =
               bound-is bind

@@ -1,6 +1,6 @@
 -- What fits in a text that fits, and what such a text keeps.
-use Rattle.std.proofs.Common.{◌≡◌, ℕ, suc, Bool, ◌&&◌, nat_le, IsTrue, List, [], ◌∷◌, length, Option, None}
-use Rattle.std.proofs.Common.{Some, refl, sym, subst, true≢false}
+use Rattle.std.proofs.Common.{◌≡◌, ℕ, suc, ℤ, Bool, ◌&&◌, nat_le, IsTrue, List, [], ◌∷◌, length, Option}
+use Rattle.std.proofs.Common.{None, Some, refl, sym, subst, true≢false}
 use Rattle.seuss_program.specs.declared.program.Program.{Program}
 use Rattle.seuss_program.specs.declared.tree.Ref.{Ref}
 use Rattle.seuss_program.specs.declared.tree.Kind.{Kind}
@@ -24,7 +24,7 @@ use Rattle.seuss_program.specs.Keeping as K
 use Rattle.seuss_program.specs.Keeping.{Scope, statement_fits, body_fits, call_fits, pre_fits}
 use Rattle.seuss_program.specs.Keeping.{alternative_fits, alternatives_fit, form_fits, is_total, is_partial}
 use Rattle.seuss_program.specs.Keeping.{all_true, kind_in, kind_set, is_of}
-use Rattle.meaning_laws.proofs.KeptBodies.{each, Each, Kept, KeptCall, Put, Rules, EachAlternative}
+use Rattle.meaning_laws.proofs.KeptBodies.{each, Each, Kept, KeptCall, Put, Ends, Rules, EachAlternative}
 use Rattle.meaning_laws.proofs.KeptBodies.{statement-kept, body-kept, total-outs, choice-outs}
 use Rattle.meaning_laws.proofs.CalledProcedures.{and-left, and-right, some-same, is-of-some}
 
@@ -152,18 +152,16 @@ module _ (s : Scope) where
           )
 
       -- a procedure keeps what its text keeps
-      pub performed-outs : (q : Proc Ref) (Out : State → ℕ → Type 0)
-          (out : (state : State) (slots : List Value) (budget : ℕ) → Fact state slots budget →
-          Out state budget) (form : Form Ref) →
-          IsTrue (form_fits s form) → (state : State) (slots : List Value) (budget : ℕ) →
-          Fact state slots budget →
-          Out (performed p callee box q form state slots budget).state
-          (performed p callee box q form state slots budget).budget
-      performed-outs q Out out (F.Total ts) fits =
-          total-outs p callee box Fact Fits rules q Out out ts (body-fit ts fits)
-      performed-outs q Out out (F.Partial alts) fits =
-          choice-outs p callee box Fact Fits rules q Out out alts
+      pub performed-outs : (q : Proc Ref) (Out : State → Option ℤ → ℕ → Type 0) →
+          Ends p callee box Fact q Out → (form : Form Ref) → IsTrue (form_fits s form) →
+          (state : State) (slots : List Value) (budget : ℕ) → Fact state slots budget →
+          let called = performed p callee box q form state slots budget in
+          Out called.state called.result called.budget
+      performed-outs q Out ends (F.Total ts) fits =
+          total-outs p callee box Fact Fits rules q Out ends ts (body-fit ts fits)
+      performed-outs q Out ends (F.Partial alts) fits =
+          choice-outs p callee box Fact Fits rules q Out ends alts
           (each-known alts (and-right (nat_le (length alts) 16) (alternatives_fit s alts) fits))
-      performed-outs q Out out (F.Action alts) fits =
-          choice-outs p callee box Fact Fits rules q Out out alts
+      performed-outs q Out ends (F.Action alts) fits =
+          choice-outs p callee box Fact Fits rules q Out ends alts
           (each-known alts (and-right (nat_le (length alts) 16) (alternatives_fit s alts) fits))

@@ -1,5 +1,5 @@
 -- What calls and assignments keep is kept by statements, bodies and attempts.
-use Rattle.std.proofs.Common.{◌≡◌, ℕ, zero, suc, Bool, true, false, if◌then◌else◌, List, [], ◌∷◌, Option}
+use Rattle.std.proofs.Common.{◌≡◌, ℕ, zero, suc, ℤ, Bool, true, false, if◌then◌else◌, List, [], ◌∷◌, Option}
 use Rattle.std.proofs.Common.{None, Some, Result, Ok, Err, refl, sym, subst}
 use Rattle.seuss_base.specs.declared.outcome.Trap.{Trap}
 use Rattle.seuss_base.specs.declared.outcome.Outcome.{Outcome}
@@ -26,6 +26,7 @@ use Rattle.seuss_program.specs.Bodies.{in_turn, arguments, branched, stay, spend
 use Rattle.seuss_program.specs.Bodies.{bound, looped, returned, paid_call, call_with, statement}
 use Rattle.seuss_program.specs.Bodies.{statement_step, body}
 use Rattle.seuss_program.specs.Attempts.{finished, body_of, behind_pre, pre_called, chosen, judged, choice}
+use Rattle.seuss_program.specs.Attempts.{result_of}
 
 -- a function of each of the statements inside a statement
 abbrev pub each : {A B : Type 0} → (A → B) → List A → List B
@@ -81,6 +82,14 @@ module _ (p : Program) (callee : Callee) (box : ℕ) (Fact : State → List Valu
         Known (roll-Statement Ref (S.If cond holds fails)) → Each Known fails
     pub while_turn : (cond : Expr Ref) (turn : List (Statement Ref)) →
         Known (roll-Statement Ref (S.While cond turn)) → Each Known turn
+
+  -- What holds of the state, the result and the budget that an attempt leaves, by the fact: it has no
+  -- result, or it has come to its end.
+  pub record Ends (q : Proc Ref) (Out : State → Option ℤ → ℕ → Type 0) : Type 0 where
+    pub none : (state : State) (slots : List Value) (budget : ℕ) → Fact state slots budget →
+        Out state None budget
+    pub done : (state : State) (slots : List Value) (budget : ℕ) → Fact state slots budget →
+        Out state (result_of q slots) budget
 
   resumed-kept : (finish : Finish) (ran : Ran) (next : Meaning) → Left ran → Kept next →
       Left (resumed finish ran next)
@@ -226,20 +235,18 @@ module _ (p : Program) (callee : Callee) (box : ℕ) (Fact : State → List Valu
     EachAlternative (a ∷ alts) = KnownAlternative a × EachAlternative alts
 
     -- a fact on what an attempt leaves, which has no slots any more
-    module _ (q : Proc Ref) (Out : State → ℕ → Type 0)
-        (out : (state : State) (slots : List Value) (budget : ℕ) → Fact state slots budget →
-        Out state budget) where
+    module _ (q : Proc Ref) (Out : State → Option ℤ → ℕ → Type 0) (ends : Ends q Out) where
       abbrev pub Outs : Called → Type 0
-      Outs called = Out called.state called.budget
+      Outs called = Out called.state called.result called.budget
 
       finished-outs : (positive : Bool) (finish : Finish) (ran : Ran) → Left ran →
           Outs (finished positive q finish ran)
-      finished-outs true Done ran h = out ran.state ran.slots ran.budget h
-      finished-outs false Done ran h = out ran.state ran.slots ran.budget h
-      finished-outs true (Trapped t) ran h = out ran.state ran.slots ran.budget h
-      finished-outs false (Trapped t) ran h = out ran.state ran.slots ran.budget h
-      finished-outs true Spent ran h = out ran.state ran.slots ran.budget h
-      finished-outs false Spent ran h = out ran.state ran.slots ran.budget h
+      finished-outs true Done ran h = ends.done ran.state ran.slots ran.budget h
+      finished-outs false Done ran h = ends.none ran.state ran.slots ran.budget h
+      finished-outs true (Trapped t) ran h = ends.none ran.state ran.slots ran.budget h
+      finished-outs false (Trapped t) ran h = ends.none ran.state ran.slots ran.budget h
+      finished-outs true Spent ran h = ends.none ran.state ran.slots ran.budget h
+      finished-outs false Spent ran h = ends.none ran.state ran.slots ran.budget h
 
       pub total-outs : (ss : List (Statement Ref)) → Each Known ss →
           (state : State) (slots : List Value) (budget : ℕ) → Fact state slots budget →
@@ -270,13 +277,13 @@ module _ (p : Program) (callee : Callee) (box : ℕ) (Fact : State → List Valu
           behind O.Accepted called a' b =
               let ran = bound box pre.bind called.result called.state slots called.budget in
               body-outs a known ran.state ran.slots ran.budget b
-          behind O.Rejected called a' b = out called.state slots called.budget a'
-          behind (O.Trapped t) called a' b = out called.state slots called.budget a'
-          behind O.Spent called a' b = out called.state slots called.budget a'
+          behind O.Rejected called a' b = ends.none called.state slots called.budget a'
+          behind (O.Trapped t) called a' b = ends.none called.state slots called.budget a'
+          behind O.Spent called a' b = ends.none called.state slots called.budget a'
 
           by : (r : Result (List Value) Trap) → arguments pre.call.args (vars_of state box) slots ≡ r →
               Outs (pre_called p callee box q a pre r state slots budget)
-          by (Err t) is = out state slots budget h
+          by (Err t) is = ends.none state slots budget h
           by (Ok args) is =
               let called =
               callee (target_of p box pre.call.target) (method_of pre.call.method) args state budget in
@@ -287,7 +294,7 @@ module _ (p : Program) (callee : Callee) (box : ℕ) (Fact : State → List Valu
           (slots : List Value) (budget : ℕ) → Fact state slots budget →
           Outs (chosen p callee box q a a.pre state slots budget) → Outs others →
           Outs (judged p callee box q ev a others state slots budget)
-      judged-outs (Err t) a others state slots budget h first rest = out state slots budget h
+      judged-outs (Err t) a others state slots budget h first rest = ends.none state slots budget h
       judged-outs (Ok v) a others state slots budget h first rest = by (bool_of v)
         where
           by : (t : Bool) → Outs (if t then chosen p callee box q a a.pre state slots budget else others)
@@ -297,7 +304,7 @@ module _ (p : Program) (callee : Callee) (box : ℕ) (Fact : State → List Valu
       pub choice-outs : (alts : List (Alternative Ref)) → EachAlternative alts →
           (state : State) (slots : List Value) (budget : ℕ) → Fact state slots budget →
           Outs (choice p callee box q alts state slots budget)
-      choice-outs [] known state slots budget h = out state slots budget h
+      choice-outs [] known state slots budget h = ends.none state slots budget h
       choice-outs (a ∷ alts) known state slots budget h =
           judged-outs (value a.cond (vars_of state box) slots) a
           (choice p callee box q alts state slots budget) state slots budget h

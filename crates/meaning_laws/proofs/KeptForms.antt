@@ -2,10 +2,11 @@
 use Rattle.std.proofs.Common.{◌≡◌, ◌≢◌, ℕ, zero, suc, ◌<◌, ℤ, pos, Bool, true, false, if◌then◌else◌, nat_eq}
 use Rattle.std.proofs.Common.{IsTrue, List, [], ◌∷◌, ◌++◌, map, length, Option, None, Some, Ok, Err, IfOk}
 use Rattle.std.proofs.Common.{refl, sym, ap, ◌∙◌, subst, arith, append_assoc}
-use Rattle.std.specs.Prelude.{slice_get, slice_set}
+use Rattle.std.specs.Prelude.{slice_get, slice_set, IfSome}
 use Rattle.std.proofs.Math.Seq.{map-set_same}
 use Rattle.std.proofs.Math.ListN.{length-set}
 use Rattle.std.proofs.lemmas.List.{map-append, get_or-set_same, get_or-set_other}
+use Rattle.std.proofs.lemmas.List.Elements.{All-set}
 use Rattle.std.proofs.lemmas.Option.{slice_get_within}
 use Rattle.seuss_program.specs.declared.program.Program.{Program}
 use Rattle.seuss_program.specs.declared.program.BoxInfo.{BoxInfo}
@@ -23,34 +24,45 @@ use Rattle.seuss_program.specs.declared.state.State.{State}
 use Rattle.seuss_program.specs.declared.state.Value.{Value}
 use Rattle.seuss_program.specs.declared.state.Value.TheVariants as V
 use Rattle.seuss_program.specs.Programs.{cat_of, procedure_of, target_of, method_of, vars_of, with_var}
-use Rattle.seuss_program.specs.Values.{Evaluated, value}
+use Rattle.seuss_program.specs.Values.{Evaluated, HasSize, value}
 use Rattle.seuss_program.specs.Bodies.{Callee, assigned, evaluated_into, bound, statement, body}
 use Rattle.seuss_program.specs.Attempts.{attempt, attempt_of, entry_slots, form_locals}
 use Rattle.seuss_program.specs.Keeping.{Scope, scope_of, Keeps, HasForm, kind_of, kind_at, kind_set}
 use Rattle.seuss_program.specs.Keeping.{call_fits, vars_in, var_kinds, slot_kinds, param_kinds}
-use Rattle.seuss_program.specs.Keeping.{statement_fits, body_fits}
-use Rattle.meaning_laws.specs.Kinds.{HaveKinds}
+use Rattle.seuss_program.specs.Keeping.{statement_fits, body_fits, AreOf}
+use Rattle.meaning_laws.specs.Kinds.{IsOf}
 use Rattle.meaning_laws.specs.Forms.{AreFormed}
 use Rattle.meaning_laws.proofs.ValueKinds.{Gives, value-gives, kind-there, kind-set}
-use Rattle.meaning_laws.proofs.KeptBodies.{Left, Kept, KeptCall, Put}
+use Rattle.meaning_laws.proofs.FittingNumbers.{Fits}
+use Rattle.meaning_laws.proofs.FirstValues.{entry-sizes}
+use Rattle.meaning_laws.proofs.Results.{result-fits}
+use Rattle.meaning_laws.proofs.KeptBodies.{Left, Kept, KeptCall, Put, Ends}
 use Rattle.meaning_laws.proofs.CalledProcedures.{and-then-some, keeps-procedure, call-named, form-is}
 use Rattle.meaning_laws.proofs.CalledProcedures.{goes-down, call-matches}
 use Rattle.meaning_laws.proofs.FittingTexts.{Assigns, Keeping, statement-keeps, body-keeps, performed-outs}
 
 -- values keep their kinds where one of them is changed to one of its kind
-pub kinds-set : (vs : List Value) (ks : List Kind) (n : ℕ) (k : Kind) (v : Value) → HaveKinds vs ks →
-    slice_get ks n ≡ Some k → kind_of v ≡ k → HaveKinds (slice_set vs n v) ks
-kinds-set vs ks n k v has at is =
-    map-set_same kind_of vs n v (V.Int (pos 0)) (is ∙ sym (kind-there vs ks n k (V.Int (pos 0)) has at))
-    ∙ has
+pub kinds-set : (vs : List Value) (ks : List Kind) (n : ℕ) (k : Kind) (v : Value) → AreOf vs ks →
+    slice_get ks n ≡ Some k → IsOf v k → AreOf (slice_set vs n v) ks
+kinds-set vs ks n k v has at is = record {
+  kinds =
+      map-set_same kind_of vs n v (V.Int (pos 0))
+      (is.0 ∙ sym (kind-there vs ks n k (V.Int (pos 0)) has at)) ∙ has.kinds;
+  sizes = All-set HasSize vs n v is.1 has.sizes;
+}
 
 -- slots at an entry
-pub entry-kinds : (q : Proc Ref) (args : List Value) → HaveKinds args (param_kinds q.params) →
-    HaveKinds (entry_slots q args) (slot_kinds q)
+pub entry-kinds : (q : Proc Ref) (args : List Value) → AreOf args (param_kinds q.params) →
+    AreOf (entry_slots q args) (slot_kinds q)
 entry-kinds q args has =
     let result : List Value = if q.gives then V.Int (pos 0) ∷ [] else [] in
-    ap (map kind_of) (append_assoc args result (form_locals q.form))
-    ∙ (map-append kind_of args (entry_slots q []) ∙ ap (λ l. l ++ map kind_of (entry_slots q [])) has)
+    record {
+      kinds =
+          ap (map kind_of) (append_assoc args result (form_locals q.form))
+          ∙ (map-append kind_of args (entry_slots q [])
+          ∙ ap (λ l. l ++ map kind_of (entry_slots q [])) has.kinds);
+      sizes = entry-sizes q args has.sizes;
+    }
 
 -- the variables of the changed box, and those of another one
 pub vars-same : (state : State) (box n : ℕ) (v : Value) → box < length state.boxes →
@@ -75,14 +87,20 @@ box-within p box c at =
 
 pub variable-kinds : (p : Program) (box : ℕ) (c : Cat Ref) → cat_of p box ≡ Some c → (state : State) →
     HasForm p state →
-    HaveKinds (vars_of state box) (var_kinds c.vars)
-variable-kinds p box c at state form = form.values box (box-within p box c at) ∙ ap vars_in at
+    AreOf (vars_of state box) (var_kinds c.vars)
+variable-kinds p box c at state form =
+    subst (AreOf (vars_of state box)) (ap vars_in at) (form.values box (box-within p box c at))
 
--- a callee keeps the form of states
+-- a state of the program's form, and a result of 64 bits
+pub record ReturnsFormed (p : Program) (state : State) (result : Option ℤ) : Type 0 where
+  pub state_is : HasForm p state
+  pub result_is : IfSome result Fits
+
+-- a callee keeps the form of states, and its results have 64 bits
 pub record KeepsForm (p : Program) (callee : Callee) : Type 0 where
   pub by : (box number : ℕ) (r : Proc Ref) (args : List Value) (state : State) (budget : ℕ) →
-      procedure_of p box number ≡ Some r → HaveKinds args (param_kinds r.params) → HasForm p state →
-      HasForm p (callee box number args state budget).state
+      procedure_of p box number ≡ Some r → AreOf args (param_kinds r.params) → HasForm p state →
+      let called = callee box number args state budget in ReturnsFormed p called.state called.result
 
 module _ (p : Program) (keeps : Keeps p) (callee : Callee) (safe : KeepsForm p callee) (box : ℕ)
     (c : Cat Ref) (at : cat_of p box ≡ Some c) (q : Proc Ref) where
@@ -95,31 +113,32 @@ module _ (p : Program) (keeps : Keeps p) (callee : Callee) (safe : KeepsForm p c
   within : box < length p.boxes
   within = box-within p box c at
 
-  vars-typed : (state : State) → HasForm p state → HaveKinds (vars_of state box) (var_kinds c.vars)
+  vars-typed : (state : State) → HasForm p state → AreOf (vars_of state box) (var_kinds c.vars)
   vars-typed state form = variable-kinds p box c at state form
 
   with-var-form : (state : State) (n : ℕ) (k : Kind) (v : Value) → HasForm p state →
-      slice_get (var_kinds c.vars) n ≡ Some k → kind_of v ≡ k → HasForm p (with_var state box n v)
+      slice_get (var_kinds c.vars) n ≡ Some k → IsOf v k → HasForm p (with_var state box n v)
   with-var-form state n k v form there is = record {
     count = length-set state.boxes box (record { values = slice_set (vars_of state box) n v }) ∙ form.count;
     values = λ other less. by other less (nat_eq other box) refl;
   }
     where
       by : (other : ℕ) → other < length p.boxes → (b : Bool) → nat_eq other box ≡ b →
-          map kind_of (vars_of (with_var state box n v) other) ≡ vars_in (cat_of p other)
+          AreOf (vars_of (with_var state box n v) other) (vars_in (cat_of p other))
       by other less true e =
           let same : other ≡ box = grind (arith, e) in
           let inside : box < length state.boxes = omega (arith, within, form.count) in
-          subst (λ x. map kind_of (vars_of (with_var state box n v) x) ≡ vars_in (cat_of p x)) (sym same)
-          (ap (map kind_of) (vars-same state box n v inside)
-          ∙ (kinds-set (vars_of state box) (var_kinds c.vars) n k v (vars-typed state form) there is
-          ∙ sym (ap vars_in at)))
+          subst (λ x. AreOf (vars_of (with_var state box n v) x) (vars_in (cat_of p x))) (sym same)
+          (subst (λ vs. AreOf vs (vars_in (cat_of p box))) (sym (vars-same state box n v inside))
+          (subst (AreOf (slice_set (vars_of state box) n v)) (sym (ap vars_in at))
+          (kinds-set (vars_of state box) (var_kinds c.vars) n k v (vars-typed state form) there is)))
       by other less false e =
           let differ : other ≢ box = grind (arith, e) in
-          ap (map kind_of) (vars-other state box other n v differ) ∙ form.values other less
+          subst (λ vs. AreOf vs (vars_in (cat_of p other))) (sym (vars-other state box other n v differ))
+          (form.values other less)
 
   assigned-formed : (name : Ref) (k : Kind) (v : Value) (state : State) (slots : List Value) (budget : ℕ) →
-      kind_at scope name ≡ Some k → kind_of v ≡ k → AreFormed p q state slots →
+      kind_at scope name ≡ Some k → IsOf v k → AreFormed p q state slots →
       Left p callee box Formed (assigned box name v state slots budget)
   assigned-formed (R.Var n) k v state slots budget there is h =
       record { state_is = with-var-form state n k v h.state_is there is; slots_are = h.slots_are }
@@ -137,13 +156,13 @@ module _ (p : Program) (keeps : Keeps p) (callee : Callee) (safe : KeepsForm p c
       assigned-formed name k v state slots budget there is h
 
   bound-formed : (bind : Option Ref) (result : Option ℤ) (state : State) (slots : List Value) (budget : ℕ) →
-      ((name : Ref) → bind ≡ Some name → kind_set scope name ≡ Some K.Int) → AreFormed p q state slots →
-      Left p callee box Formed (bound box bind result state slots budget)
-  bound-formed None result state slots budget is h = h
-  bound-formed (Some name) None state slots budget is h = h
-  bound-formed (Some name) (Some z) state slots budget is h =
+      ((name : Ref) → bind ≡ Some name → kind_set scope name ≡ Some K.Int) → IfSome result Fits →
+      AreFormed p q state slots → Left p callee box Formed (bound box bind result state slots budget)
+  bound-formed None result state slots budget is small h = h
+  bound-formed (Some name) None state slots budget is small h = h
+  bound-formed (Some name) (Some z) state slots budget is small h =
       assigned-formed name K.Int (V.Int z) state slots budget
-      (kind-set scope name K.Int (is name refl)) refl h
+      (kind-set scope name K.Int (is name refl)) (refl, small) h
 
   call-formed : (form : Form Ref → Bool) (bind : Option Ref) (call : Call Ref) →
       IsTrue (call_fits scope form bind call) → KeptCall p callee box Formed bind call
@@ -155,18 +174,17 @@ module _ (p : Program) (keeps : Keeps p) (callee : Callee) (safe : KeepsForm p c
         goes-down p keeps box c at q form call named.0 named.1
         (form-is scope form bind call fits named.0 named.1) in
         let matches = call-matches scope form bind call fits named.0 named.1 in
-        let typed : HaveKinds args (param_kinds named.0.params) =
-        subst (λ r. IfOk r (λ values. HaveKinds values (param_kinds named.0.params))) is
+        let typed : AreOf args (param_kinds named.0.params) =
+        subst (λ r. IfOk r (λ values. AreOf values (param_kinds named.0.params))) is
         (matches.args (vars_of state box) slots (vars-typed state h.state_is) h.slots_are) in
-        let after : AreFormed p q called.state slots = record {
-          state_is =
-              safe.by (target_of p box call.target)
-              (method_of call.method) named.0 args state budget down.there typed h.state_is;
-          slots_are = h.slots_are;
-        } in (
+        let back : ReturnsFormed p called.state called.result =
+        safe.by (target_of p box call.target)
+        (method_of call.method) named.0 args state budget down.there typed h.state_is in
+        let after : AreFormed p q called.state slots =
+        record { state_is = back.state_is; slots_are = h.slots_are } in (
           after,
           bound-formed bind called.result called.state slots called.budget
-              (λ name e. (matches.bound name e).0) after,
+              (λ name e. (matches.bound name e).0) back.result_is after,
         );
   }
 
@@ -191,24 +209,37 @@ module _ (p : Program) (keeps : Keeps p) (callee : Callee) (safe : KeepsForm p c
       Kept p callee box Formed (body p callee box ts)
   body-formed ts fits = body-keeps scope p callee box Formed keeping-form ts fits
 
+  ends-formed : Ends p callee box Formed q (λ state result budget. ReturnsFormed p state result)
+  ends-formed = record {
+    none = λ state slots budget h. record { state_is = h.state_is; result_is = tt };
+    done =
+        λ state slots budget h.
+        record { state_is = h.state_is; result_is = result-fits q slots h.slots_are.sizes };
+  }
+
   pub procedure-formed : (number : ℕ) (args : List Value) (state : State) (budget : ℕ) →
-      procedure_of p box number ≡ Some q → HaveKinds args (param_kinds q.params) → HasForm p state →
-      HasForm p (attempt_of p callee box (Some q) args state budget).state
+      procedure_of p box number ≡ Some q → AreOf args (param_kinds q.params) → HasForm p state →
+      let called = attempt_of p callee box (Some q) args state budget in
+      ReturnsFormed p called.state called.result
   procedure-formed number args state budget there typed form =
-      performed-outs scope p callee box Formed keeping-form q (λ state budget. HasForm p state)
-      (λ state slots budget h. h.state_is) q.form
+      performed-outs scope p callee box Formed keeping-form q
+      (λ state result budget. ReturnsFormed p state result) ends-formed q.form
       (keeps-procedure p keeps box c at number q there).text state (entry_slots q args) budget
       (record { state_is = form; slots_are = entry-kinds q args typed })
 
 pub attempt-keeps-form : (p : Program) → Keeps p → (depth : ℕ) → KeepsForm p (attempt p depth)
-attempt-keeps-form p keeps zero = record { by = λ box number r args state budget there typed form. form }
+attempt-keeps-form p keeps zero =
+    record {
+      by = λ box number r args state budget there typed form. record { state_is = form; result_is = tt };
+    }
 attempt-keeps-form p keeps (suc depth) = next (attempt-keeps-form p keeps depth)
   where
     next : KeepsForm p (attempt p depth) → KeepsForm p (attempt p (suc depth))
     next safe = record {
       by = λ box number r args state budget there typed form.
           let at = and-then-some (λ (c : Cat Ref). slice_get c.procs number) (cat_of p box) r there in
-          subst (λ o. HasForm p (attempt_of p (attempt p depth) box o args state budget).state) (sym there)
+          subst (λ o. ReturnsFormed p (attempt_of p (attempt p depth) box o args state budget).state
+          (attempt_of p (attempt p depth) box o args state budget).result) (sym there)
           (procedure-formed p keeps
           (attempt p depth) safe box at.0 at.1 r number args state budget there typed form);
     }

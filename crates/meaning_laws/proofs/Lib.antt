@@ -3,6 +3,8 @@ pub mod CalledProcedures
 pub mod ChosenAlternatives
 pub mod EnoughTurns
 pub mod ExpressionMeanings
+pub mod FirstValues
+pub mod FittingNumbers
 pub mod FittingTexts
 pub mod KeptBodies
 pub mod KeptForms

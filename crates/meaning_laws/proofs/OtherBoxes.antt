@@ -102,9 +102,10 @@ module _ (p : Program) (keeps : Keeps p) (callee : Callee) (below : StaysBelow p
       procedure_of p box number ≡ Some q → vars_of state other ≡ vars →
       vars_of (attempt_of p callee box (Some q) args state budget).state other ≡ vars
   procedure-same number args state budget there h =
-      performed-outs scope p callee box Kept_vars keeping-vars q (λ state budget. vars_of state other ≡ vars)
-      (λ state slots budget h. h) q.form (keeps-procedure p keeps box c at number q there).text state
-      (entry_slots q args) budget h
+      performed-outs scope p callee box Kept_vars keeping-vars q
+      (λ state result budget. vars_of state other ≡ vars)
+      (record { none = λ state slots budget h. h; done = λ state slots budget h. h }) q.form
+      (keeps-procedure p keeps box c at number q there).text state (entry_slots q args) budget h
 
 pub attempt-stays : (p : Program) → Keeps p → (depth : ℕ) → StaysBelow p (attempt p depth)
 attempt-stays p keeps zero = record { by = λ box number other args state budget differ higher. refl }

@@ -2,7 +2,7 @@
 use Rattle.std.proofs.Common.{◌≡◌, ℕ, zero, suc, ℤ, pos, Bool, true, false, if◌then◌else◌, List, [], ◌∷◌}
 use Rattle.std.proofs.Common.{◌++◌, map, length, Option, None, Some, is_some, Result, Ok, Err, refl, sym, ap}
 use Rattle.std.proofs.Common.{◌∙◌, subst}
-use Rattle.std.specs.Prelude.{slice_get, slice_index_or}
+use Rattle.std.specs.Prelude.{slice_get, slice_index_or, IfSome, All}
 use Rattle.seuss_base.specs.declared.outcome.Trap.{Trap}
 use Rattle.seuss_base.specs.declared.outcome.Outcome.{Outcome}
 use Rattle.seuss_base.specs.declared.outcome.Outcome.TheVariants as O
@@ -20,16 +20,16 @@ use Rattle.seuss_program.specs.declared.state.State.{State}
 use Rattle.seuss_program.specs.declared.state.Value.{Value}
 use Rattle.seuss_program.specs.declared.state.Value.TheVariants as V
 use Rattle.seuss_program.specs.Programs.{procedure_of, target_of, method_of, vars_of}
-use Rattle.seuss_program.specs.Values.{Evaluated, value, bool_of, int_of}
+use Rattle.seuss_program.specs.Values.{Evaluated, HasSize, value, bool_of, int_of}
 use Rattle.seuss_program.specs.Bodies.{Finish, Done, Trapped, Spent, Ran, Called, Callee, arguments, bound}
 use Rattle.seuss_program.specs.Bodies.{body}
 use Rattle.seuss_program.specs.Attempts.{attempt, attempt_of, performed, finished, body_of, behind_pre}
 use Rattle.seuss_program.specs.Attempts.{pre_called, chosen, judged, choice, entry_slots, form_locals}
 use Rattle.seuss_program.specs.Attempts.{result_of}
-use Rattle.seuss_program.specs.Keeping.{kind_of, slot_kinds, param_kinds}
-use Rattle.meaning_laws.specs.Kinds.{HaveKinds}
+use Rattle.seuss_program.specs.Keeping.{AreOf, kind_of, slot_kinds, param_kinds}
 use Rattle.meaning_laws.specs.Forms.{HasResult}
-use Rattle.meaning_laws.proofs.ValueKinds.{kind-there, kind-stands}
+use Rattle.meaning_laws.proofs.FittingNumbers.{Fits, all-or}
+use Rattle.meaning_laws.proofs.ValueKinds.{int-fits, kind-there, kind-stands}
 
 module _ (p : Program) (callee : Callee) (box : ℕ) (q : Proc Ref) where
   result-there : (b : Bool) (slots : List Value) →
@@ -106,13 +106,25 @@ attempt-has p (suc depth) box number q args state budget there =
     subst (λ o. HasResult q (attempt_of p (attempt p depth) box o args state budget)) (sym there)
     (performed-has p (attempt p depth) box q q.form state (entry_slots q args) budget)
 
+-- a result has 64 bits where the numbers of the slots have them
+pub result-fits : (q : Proc Ref) (slots : List Value) → All HasSize slots → IfSome (result_of q slots) Fits
+result-fits q slots all = by q.gives
+  where
+    by : (b : Bool) →
+        IfSome (if b then Some (int_of (slice_index_or slots (length q.params) (V.Int (pos 0)))) else None)
+        Fits
+    by true =
+        int-fits (slice_index_or slots (length q.params) (V.Int (pos 0)))
+        (all-or HasSize slots (length q.params) (V.Int (pos 0)) all refl)
+    by false = tt
+
 -- the slot of the result is an int
 result-kind : (params : List Param) (rest : List Kind) →
     slice_get (param_kinds params ++ (K.Int ∷ rest)) (length params) ≡ Some K.Int
 result-kind [] rest = refl
 result-kind (x ∷ params) rest = result-kind params rest
 
-pub result-stands : (q : Proc Ref) (slots : List Value) → HaveKinds slots (slot_kinds q) → q.gives ≡ true →
+pub result-stands : (q : Proc Ref) (slots : List Value) → AreOf slots (slot_kinds q) → q.gives ≡ true →
     (z : ℤ) × (slice_get slots (length q.params) ≡ Some (V.Int z)) × (result_of q slots ≡ Some z)
 result-stands q slots has gives = by (slice_index_or slots (length q.params) (V.Int (pos 0))) refl
   where

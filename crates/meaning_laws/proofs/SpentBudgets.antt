@@ -18,8 +18,8 @@ use Rattle.seuss_program.specs.Programs.{procedure_of, target_of, method_of, var
 use Rattle.seuss_program.specs.Values.{Evaluated, value}
 use Rattle.seuss_program.specs.Bodies.{Callee, assigned, evaluated_into, bound, statement, body}
 use Rattle.seuss_program.specs.Attempts.{attempt, attempt_of, performed, entry_slots}
-use Rattle.meaning_laws.proofs.KeptBodies.{Each, Kept, KeptCall, Rules, Put, EachAlternative, statement-kept}
-use Rattle.meaning_laws.proofs.KeptBodies.{body-kept, total-outs, choice-outs}
+use Rattle.meaning_laws.proofs.KeptBodies.{Each, Kept, KeptCall, Rules, Put, Ends, EachAlternative}
+use Rattle.meaning_laws.proofs.KeptBodies.{statement-kept, body-kept, total-outs, choice-outs}
 
 -- at most this much is left
 abbrev AtMost : ℕ → State → List Value → ℕ → Type 0
@@ -95,17 +95,20 @@ module _ (p : Program) (callee : Callee) (box most : ℕ) (never : NeverRaises c
     any-alternatives alts,
   )
 
+  ends-most : (q : Proc Ref) → Ends p callee box (AtMost most) q (λ state result budget. budget ≤ most)
+  ends-most q = record { none = λ state slots budget h. h; done = λ state slots budget h. h }
+
   performed-most : (q : Proc Ref) (f : Form Ref) (state : State) (slots : List Value) →
       (performed p callee box q f state slots most).budget ≤ most
   performed-most q (F.Total ss) state slots =
-      total-outs p callee box (AtMost most) Any rules-most q (λ state budget. budget ≤ most)
-      (λ state slots budget h. h) ss (any-each ss) state slots most (le_refl most)
+      total-outs p callee box (AtMost most) Any rules-most q (λ state result budget. budget ≤ most)
+      (ends-most q) ss (any-each ss) state slots most (le_refl most)
   performed-most q (F.Partial alts) state slots =
-      choice-outs p callee box (AtMost most) Any rules-most q (λ state budget. budget ≤ most)
-      (λ state slots budget h. h) alts (any-alternatives alts) state slots most (le_refl most)
+      choice-outs p callee box (AtMost most) Any rules-most q (λ state result budget. budget ≤ most)
+      (ends-most q) alts (any-alternatives alts) state slots most (le_refl most)
   performed-most q (F.Action alts) state slots =
-      choice-outs p callee box (AtMost most) Any rules-most q (λ state budget. budget ≤ most)
-      (λ state slots budget h. h) alts (any-alternatives alts) state slots most (le_refl most)
+      choice-outs p callee box (AtMost most) Any rules-most q (λ state result budget. budget ≤ most)
+      (ends-most q) alts (any-alternatives alts) state slots most (le_refl most)
 
   attempt-of-most : (o : Option (Proc Ref)) (args : List Value) (state : State) →
       (attempt_of p callee box o args state most).budget ≤ most

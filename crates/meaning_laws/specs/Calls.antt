@@ -11,8 +11,7 @@ use Rattle.seuss_program.specs.declared.program.Program.{Program}
 use Rattle.seuss_program.specs.declared.state.Value.{Value}
 use Rattle.seuss_program.specs.Programs.{procedure_of, level_of, target_of, method_of}
 use Rattle.seuss_program.specs.Bodies.{arguments}
-use Rattle.seuss_program.specs.Keeping.{Scope, kind_set, param_kinds}
-use Rattle.meaning_laws.specs.Kinds.{HaveKinds}
+use Rattle.seuss_program.specs.Keeping.{AreOf, Scope, kind_set, param_kinds}
 
 -- A call from the text of a box goes to a box that this one is given and that is of a lower level, and there
 -- to a procedure of this form.
@@ -31,6 +30,6 @@ pub record GoesDown (p : Program) (form : Form Ref → Bool) (box : ℕ) (call :
 -- The arguments of a call are a trap or values of the kinds of the parameters. A name that takes its result
 -- is that of an int, and the procedure has a result.
 pub record Matches (s : Scope) (bind : Option Ref) (call : Call Ref) (callee : Proc Ref) : Type 0 where
-  pub args : (vars slots : List Value) → HaveKinds vars s.vars → HaveKinds slots s.slots →
-      IfOk (arguments call.args vars slots) (λ values. HaveKinds values (param_kinds callee.params))
+  pub args : (vars slots : List Value) → AreOf vars s.vars → AreOf slots s.slots →
+      IfOk (arguments call.args vars slots) (λ values. AreOf values (param_kinds callee.params))
   pub bound : (name : Ref) → bind ≡ Some name → (kind_set s name ≡ Some K.Int) × (callee.gives ≡ true)

@@ -8,13 +8,12 @@ use Rattle.seuss_program.specs.declared.program.Program.{Program}
 use Rattle.seuss_program.specs.declared.state.State.{State}
 use Rattle.seuss_program.specs.declared.state.Value.{Value}
 use Rattle.seuss_program.specs.Bodies.{Ran, Called}
-use Rattle.seuss_program.specs.Keeping.{HasForm, slot_kinds}
-use Rattle.meaning_laws.specs.Kinds.{HaveKinds}
+use Rattle.seuss_program.specs.Keeping.{AreOf, HasForm, slot_kinds}
 
 -- a state of the program's form, and slots of a procedure
 pub record AreFormed (p : Program) (q : Proc Ref) (state : State) (slots : List Value) : Type 0 where
   pub state_is : HasForm p state
-  pub slots_are : HaveKinds slots (slot_kinds q)
+  pub slots_are : AreOf slots (slot_kinds q)
 
 -- what a run leaves is such a state and such slots
 abbrev pub LeavesFormed : Program → Proc Ref → Ran → Type 0

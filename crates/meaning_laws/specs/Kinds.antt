@@ -1,14 +1,15 @@
--- Values of given kinds, and what stands at a name.
-use Rattle.std.specs.Prelude.{◌≡◌, List, map, slice_get, Option, None}
+-- A value of a kind, and what stands at a name.
+use Rattle.std.specs.Prelude.{◌≡◌, List, slice_get, Option, None}
 use Rattle.seuss_program.specs.declared.tree.Kind.{Kind}
 use Rattle.seuss_program.specs.declared.tree.Ref.{Ref}
 use Rattle.seuss_program.specs.declared.tree.Ref.TheVariants as R
 use Rattle.seuss_program.specs.declared.state.Value.{Value}
+use Rattle.seuss_program.specs.Values.{HasSize}
 use Rattle.seuss_program.specs.Keeping.{kind_of}
 
--- values have these kinds, one for each
-abbrev pub HaveKinds : List Value → List Kind → Type 0
-HaveKinds values kinds = map kind_of values ≡ kinds
+-- a value of a kind, whose numbers have 64 bits
+abbrev pub IsOf : Value → Kind → Type 0
+IsOf v k = (kind_of v ≡ k) × HasSize v
 
 -- the value at a name, where there is a variable or a slot
 abbrev pub standing : Ref → List Value → List Value → Option Value

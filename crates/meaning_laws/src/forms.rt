@@ -1,6 +1,6 @@
 //! States keep the form of the program, and slots their kinds.
 
-ghost use Rattle.std.specs.Prelude.{◌≡◌, ℕ, ℤ, true, List, length, slice_get, Some, None, IsTrue};
+ghost use Rattle.std.specs.Prelude.{◌≡◌, ℕ, ℤ, true, List, length, slice_get, Some, None, All, IsTrue};
 ghost use Rattle.seuss_program.specs.declared.program.Program.{Program};
 ghost use Rattle.seuss_program.specs.declared.state.State.{State};
 ghost use Rattle.seuss_program.specs.declared.state.Value.{Value};
@@ -9,14 +9,15 @@ ghost use Rattle.seuss_program.specs.declared.tree.Cat.{Cat};
 ghost use Rattle.seuss_program.specs.declared.tree.Proc.{Proc};
 ghost use Rattle.seuss_program.specs.declared.tree.Ref.{Ref};
 ghost use Rattle.seuss_program.specs.declared.tree.Statement.{Statement};
+ghost use Rattle.seuss_program.specs.Values.{fits};
 ghost use Rattle.seuss_program.specs.Programs.{cat_of, procedure_of, vars_of};
 ghost use Rattle.seuss_program.specs.Bodies.{statement, body};
 ghost use Rattle.seuss_program.specs.Attempts.{action_attempt, attempt, entry_slots, result_of, tight};
 ghost use Rattle.seuss_program.specs.Initials.{initial};
-ghost use Rattle.seuss_program.specs.Keeping.{HasForm, Keeps, body_fits, param_kinds, scope_of, slot_kinds};
+ghost use Rattle.seuss_program.specs.Keeping.{AreOf, HasForm, Keeps, body_fits, param_kinds, scope_of};
+ghost use Rattle.seuss_program.specs.Keeping.{slot_kinds};
 ghost use Rattle.seuss_program.specs.Keeping.{statement_fits};
 ghost use Rattle.meaning_laws.specs.Forms.{AreFormed, HasResult, LeavesFormed};
-ghost use Rattle.meaning_laws.specs.Kinds.{HaveKinds};
 
 /// A statement or a body that fits the text of its procedure leaves a state of the program's form and slots
 /// of their kinds, where it began with such ones, however deep its calls may go.
@@ -39,10 +40,10 @@ pub fn bodies_keep_form()
 pub fn places_are_there()
     ensures variables { (p : Program) (box : ℕ) (c : Cat Ref) (q : Proc Ref) (state : State) →
         cat_of p box ≡ Some c → HasForm p state →
-        HaveKinds (vars_of state box) (scope_of p.cats c q).vars }
-    ensures entry { (q : Proc Ref) (args : List Value) → HaveKinds args (param_kinds q.params) →
-        HaveKinds (entry_slots q args) (slot_kinds q) }
-    ensures result { (q : Proc Ref) (slots : List Value) → HaveKinds slots (slot_kinds q) → q.gives ≡ true →
+        AreOf (vars_of state box) (scope_of p.cats c q).vars }
+    ensures entry { (q : Proc Ref) (args : List Value) → AreOf args (param_kinds q.params) →
+        AreOf (entry_slots q args) (slot_kinds q) }
+    ensures result { (q : Proc Ref) (slots : List Value) → AreOf slots (slot_kinds q) → q.gives ≡ true →
         (z : ℤ) × (slice_get slots (length q.params) ≡ Some (Int z)) × (result_of q slots ≡ Some z) }
 {}
 
@@ -52,7 +53,7 @@ pub fn places_are_there()
 pub fn attempts_keep_form()
     ensures state { (p : Program) (depth box number : ℕ) (q : Proc Ref) (args : List Value) (state : State)
         (budget : ℕ) →
-        Keeps p → procedure_of p box number ≡ Some q → HaveKinds args (param_kinds q.params) →
+        Keeps p → procedure_of p box number ≡ Some q → AreOf args (param_kinds q.params) →
         HasForm p state →
         HasForm p (attempt p depth box number args state budget).state }
     ensures result { (p : Program) (depth box number : ℕ) (q : Proc Ref) (args : List Value) (state : State)
@@ -66,7 +67,8 @@ pub fn attempts_keep_form()
         HasForm p (tight p actions state budget).state }
 {}
 
-/// A checked program starts in a state of its form, with any input.
+/// A checked program starts in a state of its form, with any input of numbers of 64 bits.
 pub fn starts_in_form()
-    ensures { (p : Program) (input : List ℤ) → Keeps p → HasForm p (initial p input) }
+    ensures { (p : Program) (input : List ℤ) → Keeps p → All (λ z. IsTrue (fits z)) input →
+        HasForm p (initial p input) }
 {}

@@ -3,6 +3,8 @@ use Rattle.std.proofs.Common.{◌≡◌, ℕ, ◌-◌, ℤ, ◌⊎◌, inl, inr,
 use Rattle.std.proofs.Common.{◌∷◌, ◌++◌, length, Option, None, Some, refl, sym, ap, ◌∙◌, subst, arith}
 use Rattle.std.proofs.Common.{true≢false}
 use Rattle.std.proofs.lemmas.List.{map-append}
+use Rattle.std.proofs.lemmas.List.Elements.{All-nil, All-push}
+use Rattle.std.specs.Prelude.{IfSome, IsTrue}
 use Rattle.seuss_program.specs.declared.program.Program.{Program}
 use Rattle.seuss_program.specs.declared.program.ActionInfo.{ActionInfo}
 use Rattle.seuss_program.specs.declared.tree.Ref.{Ref}
@@ -12,6 +14,7 @@ use Rattle.seuss_program.specs.declared.tree.Proc.{Proc}
 use Rattle.seuss_program.specs.declared.state.Value.{Value}
 use Rattle.seuss_program.specs.declared.state.Value.TheVariants as V
 use Rattle.seuss_program.specs.Programs.{procedure_of, target_of, method_of}
+use Rattle.seuss_program.specs.Values.{fits, HasSize}
 use Rattle.seuss_program.specs.Keeping.{kind_of, Keeps, is_total, param_kinds}
 use Rattle.method_code.specs.declared.method.Method.{Method}
 use Rattle.method_code.specs.declared.frame.Frame.{Frame}
@@ -104,9 +107,9 @@ module _ (p : Program) (keeps : Keeps p) (a : ActionInfo) where
       by (inr t) = place (OfTail box number q n.call t.0 there n.among)
 
   -- a caller goes on after a call
-  accepted_own : (w : Waiting) (found : Option ℤ) → OwnWaiting p a w →
-      OwnFrame p a w.box_number (after_accepted w.frame found)
-  accepted_own w None o = record {
+  accepted_own : (w : Waiting) (found : Option ℤ) → IfSome found (λ z. IsTrue (fits z)) →
+      OwnWaiting p a w → OwnFrame p a w.box_number (after_accepted w.frame found)
+  accepted_own w None small o = record {
     is = record {
       number = o.number;
       procedure = o.is.procedure;
@@ -116,14 +119,18 @@ module _ (p : Program) (keeps : Keeps p) (a : ActionInfo) where
     };
     of = o.of;
   }
-  accepted_own w (Some z) o = record {
+  accepted_own w (Some z) small o = record {
     is = record {
       number = o.number;
       procedure = o.is.procedure;
       there = o.is.there;
       method = o.is.method;
       place = AtResult o.is.at (omega (arith, o.is.place)) o.is.takes
-          (map-append kind_of w.frame.slots (V.Int z ∷ []) ∙ ap (λ ks. ks ++ KV.Int ∷ []) o.is.slots);
+          (record {
+            kinds = map-append kind_of w.frame.slots (V.Int z ∷ [])
+                ∙ ap (λ ks. ks ++ KV.Int ∷ []) o.is.slots.kinds;
+            sizes = All-push HasSize w.frame.slots (V.Int z) o.is.slots.sizes small;
+          });
     };
     of = o.of;
   }
@@ -145,14 +152,15 @@ module _ (p : Program) (keeps : Keeps p) (a : ActionInfo) where
       by true early = Rejection refl (early refl) o.is.slots
       by false early = Return o.is.at o.is.place o.is.takes o.is.slots
 
-  accepted_next : (x : Activation) (found : Option ℤ) → Each (OwnWaiting p a) x.waiting →
-      OwnNext p a (accepted x found (last_of x.waiting))
-  accepted_next x found waits = by (last_of x.waiting) refl
+  accepted_next : (x : Activation) (found : Option ℤ) → IfSome found (λ z. IsTrue (fits z)) →
+      Each (OwnWaiting p a) x.waiting → OwnNext p a (accepted x found (last_of x.waiting))
+  accepted_next x found small waits = by (last_of x.waiting) refl
     where
       by : (o : Option Waiting) → last_of x.waiting ≡ o → OwnNext p a (accepted x found o)
       by None e = tt
       by (Some w) e = record {
-        here = accepted_own w found (each_get (OwnWaiting p a) x.waiting (length x.waiting - 1) w waits e);
+        here = accepted_own w found small
+            (each_get (OwnWaiting p a) x.waiting (length x.waiting - 1) w waits e);
         waits = each_take (OwnWaiting p a) (length x.waiting - 1) x.waiting waits;
       }
 
@@ -196,7 +204,7 @@ module _ (p : Program) (keeps : Keeps p) (a : ActionInfo) where
         waits = each_push (OwnWaiting p a) x.waiting w o.waits
             (record { number = number; is = f.0; of = o.here.of });
       }
-  next_own x o s (E.Returned found) f n = accepted_next (record x { frame = s.frame }) found o.waits
+  next_own x o s (E.Returned found) f n = accepted_next (record x { frame = s.frame }) found f o.waits
   next_own x o s E.RejectedPlain f n = rejected_next (record x { frame = s.frame }) true o.waits
   next_own x o s E.Rejected f n = rejected_next (record x { frame = s.frame }) x.plain o.waits
   next_own x o s (E.Trapped t) f n = tt
@@ -262,7 +270,7 @@ module _ (p : Program) (keeps : Keeps p) (a : ActionInfo) where
             there = is.there;
             method = refl;
             place = entry_is_frame p a.box_number a.procedure is.procedure [] is.there
-                (ap param_kinds (sym alone.0));
+                (record { kinds = ap param_kinds (sym alone.0); sizes = All-nil HasSize });
           };
           of = record { procedure = is.procedure; there = is.there; among = inl Own };
         };

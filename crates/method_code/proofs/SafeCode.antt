@@ -1,4 +1,4 @@
--- The code of a checked procedure keeps the kinds of variables and slots.
+-- The code of a checked procedure keeps the kinds and the sizes of variables and slots.
 use Rattle.std.proofs.Common.{◌≡◌, ℕ, zero, suc, ◌+◌, ◌-◌, ◌≤◌, Bool, true, false, not, if◌then◌else◌}
 use Rattle.std.proofs.Common.{IsTrue, List, [], ◌∷◌, ◌++◌, map, length, take, drop, Option, None, Some}
 use Rattle.std.proofs.Common.{Result, Ok, Err, refl, sym, ap, ◌∙◌, subst, arith, append_assoc}
@@ -19,8 +19,9 @@ use Rattle.seuss_program.specs.declared.state.Value.TheVariants as V
 use Rattle.seuss_program.specs.Programs.{cat_of, procedure_of, target_of, method_of}
 use Rattle.seuss_program.specs.Values.{Evaluated, value, bool_of}
 use Rattle.seuss_program.specs.Bodies.{arguments, arguments_after, argument_then}
-use Rattle.seuss_program.specs.Keeping.{Scope, vars_in, slot_kinds, kind_at, kind_set, kind_in, is_of}
+use Rattle.seuss_program.specs.Keeping.{AreOf, Scope, vars_in, slot_kinds, kind_at, kind_set, kind_in, is_of}
 use Rattle.seuss_program.specs.Keeping.{arguments_fit, bind_fits, param_kinds, is_total, all_true}
+use Rattle.meaning_laws.proofs.ValueKinds.{kind-set as kind_where_set}
 use Rattle.method_code.specs.declared.instruction.Instruction.{Instruction}
 use Rattle.method_code.specs.declared.instruction.Instruction.TheVariants as I
 use Rattle.method_code.specs.declared.instruction.Move.{Move}
@@ -33,7 +34,7 @@ use Rattle.method_code.specs.Steps.{all_but_last, Stepped, runs}
 use Rattle.method_code.specs.Frames.{HasVars, IsWaiting, FitsStep}
 use Rattle.method_code.proofs.Going.{behind, runs_on, runs_stop}
 use Rattle.method_code.proofs.Simulation.{and_left, and_right}
-use Rattle.method_code.proofs.KindLists.{has_kind, have_kinds, both_true, to_kinds}
+use Rattle.method_code.proofs.KindLists.{has_kind, have_kinds, both_true, to_kinds, number_fits}
 use Rattle.method_code.proofs.TypedValues.{Typed, value_typed}
 
 pub none_some : {A : Type 0} (x : A) → None ≡ Some x → ⊥
@@ -83,18 +84,6 @@ kinds_front (x ∷ ks) (w ∷ u ∷ vs) k h =
     subst (λ n. IsTrue (have_kinds (x ∷ ks) (take n (w ∷ u ∷ vs)))) e
     (both_true (has_kind x w) (have_kinds ks (take (length (u ∷ vs) - 1) (u ∷ vs)))
     (and_left (has_kind x w) _ h) (kinds_front ks (u ∷ vs) k (and_right (has_kind x w) _ h)))
-
--- the kind that a name has where it may be assigned
-kind_where_set : (s : Scope) (name : Ref) (k : Kind) → kind_set s name ≡ Some k → kind_at s name ≡ Some k
-kind_where_set s (R.Var n) k h = h
-kind_where_set s (R.Slot n) k h = by _ h
-  where
-    by : (b : Bool) → (if b then None else slice_get s.slots n) ≡ Some k → slice_get s.slots n ≡ Some k
-    by true h = absurd (none_some k h)
-    by false h = h
-kind_where_set s (R.Given n) k h = absurd (none_some k h)
-kind_where_set s (R.Method n) k h = absurd (none_some k h)
-kind_where_set s (R.Cat n) k h = absurd (none_some k h)
 
 pub is_of_some : (k : Kind) (o : Option Kind) → IsTrue (is_of k o) → o ≡ Some k
 is_of_some k None h = absurd (true≢false (sym h))
@@ -203,6 +192,10 @@ module _ (p : Program) (box number : ℕ) (q : Proc Ref) (s : Scope) (text : Tex
     pub by : (at most : ℕ) (post : List Instruction) → drop at the_method.instructions ≡ code ++ post →
         SafeAt (at + length code) most → SafeAt at most × Returns code at most
 
+  -- variables that pass the test are variables of the box
+  pub box_vars : (vars : List Value) → IsTrue (have_kinds s.vars vars) → HasVars p box vars
+  box_vars vars fit = subst (λ ks. AreOf vars ks) text.vars (to_kinds s.vars vars fit)
+
   -- a step that ends without a call
   ends_safe : (at budget : ℕ) (vars slots : List Value) (i : Instruction) (rest : List Instruction)
       (move : Move) → drop at the_method.instructions ≡ i ∷ rest →
@@ -212,7 +205,7 @@ module _ (p : Program) (box number : ℕ) (q : Proc Ref) (s : Scope) (text : Tex
       subst (λ (x : Stepped). FitsStep p box number x)
       (sym (runs_stop the_method (number_of p box number) at i rest vars slots
       (acts vars slots (M.Trap t)) budget h (does ∙ ap (acts vars slots) is) tt))
-      (record { vars = to_kinds s.vars vars fit ∙ text.vars; end = tt })
+      (record { vars = box_vars vars fit; end = tt })
 
   -- an instruction that goes on
   goes_safe : (at end budget most many : ℕ) (vars slots vars' slots' : List Value) (i : Instruction)
@@ -307,7 +300,8 @@ module _ (p : Program) (box number : ℕ) (q : Proc Ref) (s : Scope) (text : Tex
     by = λ budget vars slots le fv fs.
         put_safe at budget most vars slots (all_but_last slots) (I.Take (Some name)) rest name KV.Int
         (V.Int (last_number slots)) h refl le exit fv (kinds_front s.slots slots KV.Int fs)
-        (kind_where_set s name KV.Int (is_of_some KV.Int (kind_set s name) (and_right gives _ fit))) refl;
+        (kind_where_set s name KV.Int (is_of_some KV.Int (kind_set s name) (and_right gives _ fit)))
+        (number_fits (s.slots ++ KV.Int ∷ []) slots (length slots - 1) fs);
   }
 
   -- what a fitting call goes to
@@ -333,7 +327,7 @@ module _ (p : Program) (box number : ℕ) (q : Proc Ref) (s : Scope) (text : Tex
     at = at;
     place = refl;
     takes = (bind, taken_there);
-    slots = to_kinds s.slots slots fs ∙ text.slots;
+    slots = subst (λ ks. AreOf slots ks) text.slots (to_kinds s.slots slots fs);
     early = early;
   }
     where
@@ -352,9 +346,6 @@ module _ (p : Program) (box number : ℕ) (q : Proc Ref) (s : Scope) (text : Tex
 
       taken_there : slice_get (form_code q.form) at ≡ Some (I.Take bind)
       taken_there = get_first (form_code q.form) at (I.Take bind) rest h
-
-  pub box_vars : (vars : List Value) → IsTrue (have_kinds s.vars vars) → HasVars p box vars
-  box_vars vars fit = to_kinds s.vars vars fit ∙ text.vars
 
   total_is : (f : Form Ref) → IsTrue (is_total f) → is_total f ≡ not false
   total_is f h = h

@@ -2,7 +2,7 @@
 use Rattle.std.proofs.Common.{◌≡◌, ℕ, zero, suc, ◌+◌, Bool, true, false, not, if◌then◌else◌, IsTrue, List}
 use Rattle.std.proofs.Common.{[], ◌∷◌, ◌++◌, length, drop, Option, None, Some, option_and_then, Result, Ok}
 use Rattle.std.proofs.Common.{Err, refl, sym, ap, ◌∙◌, subst, arith, append_assoc, le_refl, true≢false}
-use Rattle.std.specs.Prelude.{slice_get, nat_le}
+use Rattle.std.specs.Prelude.{slice_get, nat_le, IfSome}
 use Rattle.std.specs.List.{flat_map}
 use Rattle.seuss_base.specs.declared.outcome.Trap.{Trap}
 use Rattle.seuss_program.specs.declared.program.Program.{Program}
@@ -22,13 +22,14 @@ use Rattle.seuss_program.specs.declared.tree.Statement.TheOpen as S
 use Rattle.seuss_program.specs.declared.tree.Statement.TheOpen.{Statement-F}
 use Rattle.seuss_program.specs.declared.state.Value.{Value}
 use Rattle.seuss_program.specs.Programs.{procedure_of, target_of, method_of}
-use Rattle.seuss_program.specs.Values.{Evaluated, value, bool_of}
+use Rattle.seuss_program.specs.Values.{Evaluated, value, bool_of, fits}
 use Rattle.seuss_program.specs.Bodies.{arguments}
 use Rattle.seuss_program.specs.Keeping as K
-use Rattle.seuss_program.specs.Keeping.{Scope, Keeps, statement_fits, body_fits, call_fits, meets, called}
-use Rattle.seuss_program.specs.Keeping.{pre_fits, alternative_fits, alternatives_fit, form_fits, is_total}
-use Rattle.seuss_program.specs.Keeping.{is_partial, all_true, kind_in, kind_set, is_kind, is_of, vars_in}
-use Rattle.seuss_program.specs.Keeping.{var_kinds, slot_kinds, param_kinds, arguments_fit, bind_fits}
+use Rattle.seuss_program.specs.Keeping.{AreOf, Scope, Keeps, statement_fits, body_fits, call_fits, meets}
+use Rattle.seuss_program.specs.Keeping.{called, pre_fits, alternative_fits, alternatives_fit, form_fits}
+use Rattle.seuss_program.specs.Keeping.{is_total, is_partial, all_true, kind_in, kind_set, is_kind, is_of}
+use Rattle.seuss_program.specs.Keeping.{vars_in, var_kinds, slot_kinds, param_kinds, arguments_fit}
+use Rattle.seuss_program.specs.Keeping.{bind_fits}
 use Rattle.method_code.specs.declared.instruction.Instruction.{Instruction}
 use Rattle.method_code.specs.declared.instruction.Instruction.TheVariants as I
 use Rattle.method_code.specs.declared.instruction.Move.TheVariants as M
@@ -42,12 +43,12 @@ use Rattle.method_code.specs.Steps as T
 use Rattle.method_code.specs.Steps.{acts, Stepped, leaves, runs, result_in, chosen_head, judged_head}
 use Rattle.method_code.specs.Steps.{called_early, entered, from_place, step, step_in}
 use Rattle.method_code.specs.Frames as Fr
-use Rattle.method_code.specs.Frames.{HasVars, IsFrame, IsCall, FitsStep, IsPlace}
+use Rattle.method_code.specs.Frames.{HasVars, HasSlots, IsFrame, IsCall, FitsStep, IsPlace}
 use Rattle.method_code.proofs.Going.{behind, runs_stop}
 use Rattle.method_code.proofs.Simulation.{and_left, and_right}
 use Rattle.method_code.proofs.Statements.{each, each_each, code-layer, fits-layer}
 use Rattle.method_code.proofs.Places.{Stands, stands, coded, scope, keeps_procedure, calls_below}
-use Rattle.method_code.proofs.KindLists.{have_kinds, to_kinds, of_kinds}
+use Rattle.method_code.proofs.KindLists.{have_kinds, to_kinds, of_kinds, number_fits}
 use Rattle.method_code.proofs.SafeCode.{none_some, some_same, is_of_some, ArgsTyped, args_typed, Text}
 use Rattle.method_code.proofs.SafeCode.{SafeAt, SafeTaking, Returns, returns_append, Safe, set_safe}
 use Rattle.method_code.proofs.SafeCode.{none_safe, then_safe, all_safe, take_safe, GoodCall, waits_frame}
@@ -117,6 +118,16 @@ module _ (p : Program) (box number : ℕ) (q : Proc Ref) (s : Scope) (text : Tex
   abbrev Here : ℕ → ℕ → Type 0
   Here at most = SafeAt p box number q s text at most
 
+  -- the number that a procedure returns has 64 bits
+  returned_fits : (slots : List Value) → IsTrue (have_kinds s.slots slots) →
+      IfSome (result_in (method_code q).result slots) (λ z. IsTrue (fits z))
+  returned_fits slots fs = by q.gives
+    where
+      by : (b : Bool) → IfSome (result_in (if b then Some (length q.params) else None) slots)
+          (λ z. IsTrue (fits z))
+      by true = number_fits s.slots slots (length q.params) fs
+      by false = tt
+
   -- the end of a body
   return_safe : (at most : ℕ) (rest : List Instruction) →
       drop at (method_code q).instructions ≡ I.Return ∷ rest → Here at most
@@ -125,7 +136,7 @@ module _ (p : Program) (box number : ℕ) (q : Proc Ref) (s : Scope) (text : Tex
         subst (λ (x : Stepped). FitsStep p box number x)
         (sym (runs_stop (method_code q) (number_of p box number) at I.Return rest vars slots
         (acts vars slots M.Return) budget h refl tt))
-        (record { vars = box_vars p box number q s text vars fv; end = tt });
+        (record { vars = box_vars p box number q s text vars fv; end = returned_fits slots fs });
   }
 
   reject_safe : (at most : ℕ) (rest : List Instruction) →
@@ -386,23 +397,25 @@ module _ (p : Program) (box number : ℕ) (q : Proc Ref) (s : Scope) (text : Tex
       goal place = FitsStep p box number
           (from_place (method_code q) (number_of p box number) budget place vars slots)
 
+      -- slots of the procedure pass the test
+      right : HasSlots q slots → IsTrue (have_kinds s.slots slots)
+      right fs = of_kinds s.slots slots (subst (λ ks. AreOf slots ks) (sym text.slots) fs)
+
       by : IsPlace q place slots → FitsStep p box number
           (from_place (method_code q) (number_of p box number) budget place vars slots)
-      by (Fr.Entry e fs) = subst goal (sym e)
-          (f.enters vars slots fv (of_kinds s.slots slots (fs ∙ sym text.slots)))
+      by (Fr.Entry e fs) = subst goal (sym e) (f.enters vars slots fv (right fs))
       by (Fr.Rejection e r fs) = subst goal (sym e)
-          ((f.rejects r).by budget vars slots (le_refl budget) fv
-          (of_kinds s.slots slots (fs ∙ sym text.slots)))
+          ((f.rejects r).by budget vars slots (le_refl budget) fv (right fs))
       by (Fr.Result at e t fs) =
           let n : suc (0 + at) ≡ place = omega (arith, e) in
           subst goal n ((returns_get (form_code q.form) 0 budget at t.0 f.returns t.1).0.by budget vars
           slots (le_refl budget) fv
           (of_kinds (s.slots ++ KV.Int ∷ []) slots
-          (fs ∙ ap (λ ks. ks ++ KV.Int ∷ []) (sym text.slots))))
+          (subst (λ ks. AreOf slots (ks ++ KV.Int ∷ [])) (sym text.slots) fs)))
       by (Fr.Return at e t fs) =
           let n : suc (0 + at + 1) ≡ place = omega (arith, e) in
           subst goal n ((returns_get (form_code q.form) 0 budget at t.0 f.returns t.1).1.by budget vars
-          slots (le_refl budget) fv (of_kinds s.slots slots (fs ∙ sym text.slots)))
+          slots (le_refl budget) fv (right fs))
 
 module _ (p : Program) (keeps : Keeps p) (box number : ℕ) (q : Proc Ref) (at : Stands p box number q)
     (there : procedure_of p box number ≡ Some q) where
@@ -445,7 +458,7 @@ module _ (p : Program) (keeps : Keeps p) (box number : ℕ) (q : Proc Ref) (at :
   procedure_safe place slots budget vars stands fv =
       place_safe p box number q its_scope its_text (good_call is_total) (good_call is_partial)
       (keeps_procedure p keeps box number q at).text place slots budget vars stands
-      (of_kinds its_scope.vars vars (fv ∙ sym its_text.vars))
+      (of_kinds its_scope.vars vars (subst (λ ks. AreOf vars ks) (sym its_text.vars) fv))
 
 -- a step from a frame of the code, on variables of its box
 pub step_fits : (p : Program) → Keeps p → (box : ℕ) (frame : Frame) (budget : ℕ) (vars : List Value)

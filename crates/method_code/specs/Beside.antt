@@ -1,6 +1,6 @@
 -- When an action is safe beside another one: what the steps of their passes do on a box in one order, they
 -- do in the other order too (Lipton 1975).
-use Rattle.std.specs.Prelude.{◌≡◌, ℕ, ◌<◌, ◌⊎◌, Bool, true, false, not, List, map, All, IsTrue, Some}
+use Rattle.std.specs.Prelude.{◌≡◌, ℕ, ◌<◌, ◌⊎◌, Bool, true, false, not, List, IsTrue, Some}
 use Rattle.seuss_base.specs.declared.level.Level.{Level}
 use Rattle.seuss_base.specs.declared.level.Level.TheVariants.{Never, Loose, Firm}
 use Rattle.seuss_program.specs.declared.tree.Ref.{Ref}
@@ -8,10 +8,8 @@ use Rattle.seuss_program.specs.declared.tree.Proc.{Proc}
 use Rattle.seuss_program.specs.declared.program.Program.{Program}
 use Rattle.seuss_program.specs.declared.program.ActionInfo.{ActionInfo}
 use Rattle.seuss_program.specs.declared.state.Value.{Value}
-use Rattle.seuss_program.specs.declared.state.Value.TheVariants as V
 use Rattle.seuss_program.specs.Programs.{procedure_of}
-use Rattle.seuss_program.specs.Values.{fits}
-use Rattle.seuss_program.specs.Keeping.{kind_of, param_kinds}
+use Rattle.seuss_program.specs.Keeping.{AreOf, param_kinds}
 use Rattle.seuss_program.specs.Lines.{InLine, InTail}
 use Rattle.method_code.specs.declared.method.Method.{Method}
 use Rattle.method_code.specs.declared.frame.Frame.{Frame}
@@ -20,17 +18,6 @@ use Rattle.method_code.specs.Codes.{compiled, number_of}
 use Rattle.method_code.specs.Steps.{Stepped, step, entry}
 use Rattle.method_code.specs.Frames.{HasVars, IsPlace}
 use Rattle.method_code.specs.Kinds.{Early, kind_of as kind_of_step, is_late, rejects_plainly}
-
--- every number of a value has 64 bits
-abbrev pub HasSize : Value → Type 0
-HasSize (V.Int z) = IsTrue (fits z)
-HasSize (V.Bool b) = Unit {0}
-HasSize (V.Seq zs) = All (λ z. IsTrue (fits z)) zs
-
--- variables that a box may have: values of the kinds of its cat's variables, whose numbers have 64 bits
-pub record MayHave (p : Program) (box : ℕ) (vars : List Value) : Type 0 where
-  pub kinds : HasVars p box vars
-  pub sizes : All HasSize vars
 
 -- where a step begins
 pub record Start : Type 0 where
@@ -65,16 +52,16 @@ asks Firm end = true
 -- one comes first.
 abbrev pub Semicommutes : Program → ℕ → Level → Start → Start → Type 0
 Semicommutes p box level x y =
-    (vars : List Value) → MayHave p box vars → IsTrue (asks level (from (compiled p) x vars).end) →
+    (vars : List Value) → HasVars p box vars → IsTrue (asks level (from (compiled p) x vars).end) →
     Swaps (compiled p) x y vars
 
 -- Where a step of a procedure of a box may begin: at its entry with any arguments, or at another one of its
 -- places with slots of the right kinds.
 pub data MayBegin (p : Program) (box number : ℕ) (q : Proc Ref) (frame : Frame) : Type 0 where
-  AtEntry : (args : List Value) → map kind_of args ≡ param_kinds q.params → All HasSize args →
+  AtEntry : (args : List Value) → AreOf args (param_kinds q.params) →
       frame ≡ entry (compiled p) (number_of p box number) args → MayBegin p box number q frame
   AtPlace : frame.method ≡ number_of p box number → 0 < frame.place → IsPlace q frame.place frame.slots →
-      All HasSize frame.slots → MayBegin p box number q frame
+      MayBegin p box number q frame
 
 -- where a step of a pass of an action may begin on a box
 pub record OfPass (p : Program) (a : ActionInfo) (box : ℕ) (x : Start) : Type 0 where
@@ -92,5 +79,5 @@ pub record SafeBeside (p : Program) (level : Level) (a b : ActionInfo) : Type 0 
       is_late (compiled p) y.frame ≡ true →
       Semicommutes p box level x y
   pub early : (box : ℕ) (x y : Start) → OfPass p a box x → OfPass p b box y → (vars : List Value) →
-      MayHave p box vars → kind_of_step (compiled p) x.frame (from (compiled p) x vars).end ≡ Early →
+      HasVars p box vars → kind_of_step (compiled p) x.frame (from (compiled p) x vars).end ≡ Early →
       Swaps (compiled p) x y vars

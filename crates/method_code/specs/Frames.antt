@@ -1,6 +1,6 @@
 -- The frames of a program's code, and what a step from one of them leaves.
-use Rattle.std.specs.Prelude.{◌≡◌, ℕ, ◌+◌, Bool, true, false, not, List, [], ◌∷◌, ◌++◌, map, slice_get}
-use Rattle.std.specs.Prelude.{Option, Some}
+use Rattle.std.specs.Prelude.{◌≡◌, ℕ, ◌+◌, Bool, true, false, not, List, [], ◌∷◌, ◌++◌, slice_get}
+use Rattle.std.specs.Prelude.{Option, Some, IsTrue, IfSome}
 use Rattle.seuss_program.specs.declared.tree.Ref.{Ref}
 use Rattle.seuss_program.specs.declared.tree.Ref.TheVariants as R
 use Rattle.seuss_program.specs.declared.tree.Kind.TheVariants as K
@@ -8,7 +8,8 @@ use Rattle.seuss_program.specs.declared.tree.Proc.{Proc}
 use Rattle.seuss_program.specs.declared.program.Program.{Program}
 use Rattle.seuss_program.specs.declared.state.Value.{Value}
 use Rattle.seuss_program.specs.Programs.{cat_of, procedure_of, target_of}
-use Rattle.seuss_program.specs.Keeping.{kind_of, vars_in, slot_kinds, param_kinds, is_total}
+use Rattle.seuss_program.specs.Values.{fits}
+use Rattle.seuss_program.specs.Keeping.{AreOf, vars_in, slot_kinds, param_kinds, is_total}
 use Rattle.method_code.specs.declared.instruction.Instruction.TheVariants as I
 use Rattle.method_code.specs.declared.frame.Frame.{Frame}
 use Rattle.method_code.specs.declared.frame.End.{End}
@@ -16,16 +17,16 @@ use Rattle.method_code.specs.declared.frame.End.TheVariants as E
 use Rattle.method_code.specs.Codes.{form_code, number_of}
 use Rattle.method_code.specs.Steps.{Stepped}
 
--- variables of a box: a value of its kind for each variable of its cat
+-- variables of a box: a value of its kind for each variable of its cat; every number has 64 bits
 abbrev pub HasVars : Program → ℕ → List Value → Type 0
-HasVars p box vars = map kind_of vars ≡ vars_in (cat_of p box)
+HasVars p box vars = AreOf vars (vars_in (cat_of p box))
 
 -- slots of a procedure, and slots to which the result of a call is added
 abbrev pub HasSlots : Proc Ref → List Value → Type 0
-HasSlots q slots = map kind_of slots ≡ slot_kinds q
+HasSlots q slots = AreOf slots (slot_kinds q)
 
 abbrev pub HasResult : Proc Ref → List Value → Type 0
-HasResult q slots = map kind_of slots ≡ slot_kinds q ++ K.Int ∷ []
+HasResult q slots = AreOf slots (slot_kinds q ++ K.Int ∷ [])
 
 -- an instruction of a procedure that takes the result of a call
 abbrev pub TakesAt : Proc Ref → ℕ → Type 0
@@ -65,13 +66,13 @@ pub record IsCall (p : Program) (box number : ℕ) (given : List Value) (partial
   pub procedure : Proc Ref
   pub there : procedure_of p box number ≡ Some procedure
   pub form : is_total procedure.form ≡ not partial
-  pub args : map kind_of given ≡ param_kinds procedure.params
+  pub args : AreOf given (param_kinds procedure.params)
 
--- The end of a step of a procedure: at a call the procedure waits.
+-- The end of a step of a procedure: at a call the procedure waits, and a returned number has 64 bits.
 abbrev pub FitsEnd : Program → ℕ → ℕ → Frame → End → Type 0
 FitsEnd p box number frame (E.Call target method args partial) =
     IsWaiting p box number frame partial × IsCall p (target_of p box (R.Given target)) method args partial
-FitsEnd p box number frame (E.Returned found) = Unit {0}
+FitsEnd p box number frame (E.Returned found) = IfSome found (λ z. IsTrue (fits z))
 FitsEnd p box number frame E.RejectedPlain = Unit {0}
 FitsEnd p box number frame E.Rejected = Unit {0}
 FitsEnd p box number frame (E.Trapped t) = Unit {0}

@@ -1,5 +1,5 @@
 -- The steps that a pass of an action makes.
-use Rattle.std.specs.Prelude.{ℕ, ◌⊎◌, List, [], ◌∷◌}
+use Rattle.std.specs.Prelude.{◌⊎◌, List, [], ◌∷◌}
 use Rattle.seuss_program.specs.declared.program.Program.{Program}
 use Rattle.seuss_program.specs.declared.program.ActionInfo.{ActionInfo}
 use Rattle.seuss_program.specs.Lines.{InLine, InTail}

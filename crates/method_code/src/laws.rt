@@ -117,8 +117,9 @@ pub fn plain_rejection_is_told()
         ≡ is_plainly_rejected q.form vars (entry_slots q args) }
 {}
 
-/// A step from a frame of the code keeps the form of the variables. At a call its procedure waits at a frame
-/// of its own, and the call has its arguments; a returned number has 64 bits.
+/// A step from a frame of the code keeps the form of the variables: their kinds, and numbers of 64 bits. At
+/// a call its procedure waits at a frame of its own, and the call has its arguments; a returned number has
+/// 64 bits.
 pub fn step_keeps_form()
     ensures { (p : Program) (box : ℕ) (frame : Frame) (budget : ℕ) (vars : List Value) → Keeps p →
         (is : IsFrame p box frame) → HasVars p box vars →

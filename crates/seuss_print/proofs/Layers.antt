@@ -28,11 +28,11 @@ use Rattle.seuss_print.specs.Printable as P
 use Rattle.seuss_print.specs.Printable.{Content, content, joined, around, only, HasRoom}
 
 -- a function of each of the statements inside a statement
-abbrev each : {A : Type 0} → (Statement Name → A) → List (Statement Name) → List A
+abbrev pub each : {A : Type 0} → (Statement Name → A) → List (Statement Name) → List A
 each {A} f ss = (former-Statement-If-1 Name).map (Statement Name) A f ss
 
 -- what a fold gives at a statement, by one layer of it
-fold-layer : {A : Type 0} (step : Statement-F Name A → A) (s : Statement Name)
+pub fold-layer : {A : Type 0} (step : Statement-F Name A → A) (s : Statement Name)
     (d : Statement-F Name (Statement Name)) →
     s ≡ roll-Statement Name d →
     fold-Statement Name A step s ≡ step

@@ -18,6 +18,7 @@ pub mod ParsedStatements
 pub mod ParsedTrees
 pub mod PlaceLemmas
 pub mod Printable
+pub mod PrintedNumbers
 pub mod PrintedRows
 pub mod Spelled
 pub mod TokenEnds

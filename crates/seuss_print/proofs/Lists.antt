@@ -21,3 +21,9 @@ pub all_as : {X : Type 0} (P Q : X → Type 0) → ((x : X) → P x → Q x) →
     AllByRecursion Q xs
 all_as P Q f [] a = tt
 all_as P Q f (x ∷ xs) a = (f x a.0, all_as P Q f xs a.1)
+
+-- what follows of two claims on each item
+pub all_both : {X : Type 0} (P Q R : X → Type 0) → ((x : X) → P x → Q x → R x) → (xs : List X) →
+    AllByRecursion P xs → AllByRecursion Q xs → AllByRecursion R xs
+all_both P Q R f [] a b = tt
+all_both P Q R f (x ∷ xs) a b = (f x a.0 b.0, all_both P Q R f xs a.1 b.1)

@@ -19,11 +19,12 @@ use Rattle.seuss_print.specs.Expressions.{fun_symbol, truth_symbol, primary, min
 use Rattle.seuss_print.specs.Lines as F
 
 module _ {A B : Type 0} (step : Node-F Name A B → A) (out : Expr-F Name A B → B) where
-  folded : Expr Name → B
+  unfoldable pub folded : Expr Name → B
   folded e = fold-Expr Name A B step out e
 
   -- a fold at each form, by one layer
-  at-layer : (line : ℕ) (n : Node Name) (d : Node-F Name (Node Name) (Expr Name)) → n ≡ roll-Node Name d →
+  pub at-layer : (line : ℕ) (n : Node Name) (d : Node-F Name (Node Name) (Expr Name)) →
+      n ≡ roll-Node Name d →
       folded (G.expression line n) ≡ out
       (record {
         line = line;

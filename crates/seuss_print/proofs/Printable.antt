@@ -29,10 +29,11 @@ use Rattle.seuss_print.specs.Items.{tokens_in}
 use Rattle.seuss_print.specs.Canonical.{program}
 use Rattle.seuss_print.specs.Printable.{IsWithinLimit, HasFewMarks, content, IsKeptStatement}
 use Rattle.seuss_print.specs.Printable.{IsKeptAlternative, IsKeptForm, IsKeptCat, IsPrintable, pre_args}
-use Rattle.seuss_print.proofs.Lists.{all_as}
+use Rattle.seuss_print.proofs.Lists.{all_as, all_both}
 use Rattle.seuss_print.proofs.Gives.{AreFine}
 use Rattle.seuss_print.proofs.ParsedStatements.{Kept, KeptAlternative, Alternatives, all-locals}
 use Rattle.seuss_print.proofs.ParsedTrees.{FineForm, FineProcedure, FineCat, gives-program}
+use Rattle.seuss_print.proofs.PrintedNumbers.{ProcedureFits, CatFits, program-numbers}
 
 good-sort : (kind : TokenKind) (bytes : List ℕ) → kind_of bytes ≡ Some kind → IsInLimit kind bytes →
     IsWithinLimit (sort_of kind bytes)
@@ -98,17 +99,20 @@ formed-form q (F.Partial as_) fine = formed-alternatives as_ fine
 formed-form q (F.Action as_) fine =
     (formed-alternatives as_ fine.2, record { params = fine.0; gives = fine.1 })
 
-formed-procedure : (q : Proc Name) → FineProcedure q → IsWellFormedProcedure q
-formed-procedure q fine = record {
+formed-procedure : (q : Proc Name) → FineProcedure q → ProcedureFits q → IsWellFormedProcedure q
+formed-procedure q fine fits = record {
   params = All-from_recursion (λ (x : Param). IsSmall x.kind) q.params fine.params;
   form = formed-form q q.form fine.form;
+  numbers = fits;
 }
 
-formed-cat : (c : Cat Name) → FineCat c → IsWellFormedCat c
-formed-cat c fine = record {
+formed-cat : (c : Cat Name) → FineCat c → CatFits c → IsWellFormedCat c
+formed-cat c fine fits = record {
   starts = All-from_recursion _ c.vars fine.vars;
+  sizes = All-from_recursion _ c.vars fits.sizes;
   procs = All-from_recursion IsWellFormedProcedure c.procs
-      (all_as FineProcedure IsWellFormedProcedure formed-procedure c.procs fine.procs);
+      (all_both FineProcedure ProcedureFits IsWellFormedProcedure formed-procedure c.procs fine.procs
+      fits.procs);
 }
 
 kept-cat : (c : Cat Name) → FineCat c → IsKeptCat c
@@ -131,7 +135,8 @@ printable text tokens tree kinds limits p =
     p.derives.derives fine in
     record {
       formed = All-from_recursion IsWellFormedCat tree.cats
-          (all_as FineCat IsWellFormedCat formed-cat tree.cats x.is);
+          (all_both FineCat CatFits IsWellFormedCat formed-cat tree.cats x.is
+          (program-numbers tree x.short.good));
       tokens = All-from_recursion IsWithinLimit (tokens_in (program tree)) x.short.good;
       kept = All-from_recursion IsKeptCat tree.cats (all_as FineCat IsKeptCat kept-cat tree.cats x.is);
     }

@@ -35,6 +35,7 @@ use Rattle.seuss_program.specs.declared.state.Value.{Value}
 use Rattle.seuss_program.specs.declared.state.Value.TheVariants as V
 use Rattle.seuss_program.specs.declared.state.State.{State}
 use Rattle.seuss_program.specs.Programs.{cat_of, level_of, vars_of}
+use Rattle.seuss_program.specs.Values.{fits, HasSize}
 use Rattle.seuss_program.specs.Attempts.{entry_slots}
 
 -- the kind of a value
@@ -42,6 +43,11 @@ abbrev pub kind_of : Value → Kind
 kind_of (V.Int z) = K.Int
 kind_of (V.Bool b) = K.Bool
 kind_of (V.Seq zs) = K.Seq
+
+-- values of these kinds, one for each, whose numbers have 64 bits
+pub record AreOf (values : List Value) (wanted : List Kind) : Type 0 where
+  pub kinds : map kind_of values ≡ wanted
+  pub sizes : All HasSize values
 
 -- whether two kinds are the same
 abbrev pub is_kind : Kind → Kind → Bool
@@ -142,9 +148,9 @@ fun_kind U.Len = K.Int
 abbrev pub where_of : Kind → Option Kind → Kind → Option Kind
 where_of wanted part k = if is_of wanted part then Some k else None
 
--- the kind of a node by the kinds of its parts, where it has one
+-- the kind of a node by the kinds of its parts, where it has one: a literal has 64 bits
 abbrev pub node_kind : Scope → Node-F Ref (Option Kind) (Option Kind) → Option Kind
-node_kind s (N.Int z) = Some K.Int
+node_kind s (N.Int z) = if fits z then Some K.Int else None
 node_kind s (N.Bool b) = Some K.Bool
 node_kind s N.Empty = Some K.Seq
 node_kind s (N.Name name) = kind_at s name
@@ -299,10 +305,11 @@ abbrev pub is_there : Option (Cat Ref) → Bool
 is_there None = false
 is_there (Some c) = true
 
--- What a cat keeps: its start values have their kinds, the cats of its given boxes are there, its
--- procedures and certificates are right, and the limits hold.
+-- What a cat keeps: its start values have their kinds and 64 bits, the cats of its given boxes are there,
+-- its procedures and certificates are right, and the limits hold.
 pub record KeepsCat (cats : List (Cat Ref)) (c : Cat Ref) : Type 0 where
   pub starts : All (λ (v : Var). kind_of v.start ≡ v.kind) c.vars
+  pub sizes : All (λ (v : Var). HasSize v.start) c.vars
   pub given : All (λ (g : Given Ref). IsTrue (is_there (cat_at cats g.cat))) c.given
   pub procs : All (KeepsProcedure cats c) c.procs
   pub semis : All (KeepsSemi c) c.semis
@@ -372,7 +379,8 @@ pub record Keeps (p : Program) : Type 0 where
   pub few_boxes : length p.boxes ≤ 128
   pub few_actions : length p.actions ≤ 256
 
--- A state of the program's form: for each box a value of its kind for each variable of its cat.
+-- A state of the program's form: for each box a value of its kind for each variable of its cat, and every
+-- number has 64 bits.
 pub record HasForm (p : Program) (state : State) : Type 0 where
   pub count : length state.boxes ≡ length p.boxes
-  pub values : (box : ℕ) → box < length p.boxes → map kind_of (vars_of state box) ≡ vars_in (cat_of p box)
+  pub values : (box : ℕ) → box < length p.boxes → AreOf (vars_of state box) (vars_in (cat_of p box))

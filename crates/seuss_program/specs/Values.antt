@@ -3,7 +3,7 @@
 use Rattle.std.specs.Prelude.{◌-◌, ◌^◌, nat_lt, ℤ, pos, negsuc, neg_ℤ, ◌+ℤ◌, ◌-ℤ◌, ◌*ℤ◌, int_lt, int_le}
 use Rattle.std.specs.Prelude.{int_div, int_rem, Bool, true, false, ◌&&◌, ◌||◌, not, if◌then◌else◌, List, []}
 use Rattle.std.specs.Prelude.{◌∷◌, ◌++◌, length, take, drop, slice_index_or, slice_get, Option, None, Some}
-use Rattle.std.specs.Prelude.{Result, Ok, Err}
+use Rattle.std.specs.Prelude.{Result, Ok, Err, All, IsTrue}
 use Rattle.std.specs.Int.{w64, int_wrap}
 use Rattle.std.specs.Ordering.{int_eq}
 use Rattle.seuss_base.specs.declared.outcome.Trap.{Trap}
@@ -41,6 +41,12 @@ seq_of (V.Seq zs) = zs
 abbrev pub fits : ℤ → Bool
 fits (pos n) = nat_lt n (2 ^ 63)
 fits (negsuc n) = nat_lt n (2 ^ 63)
+
+-- every number of a value has 64 bits
+abbrev pub HasSize : Value → Type 0
+HasSize (V.Int z) = IsTrue (fits z)
+HasSize (V.Bool b) = Unit {0}
+HasSize (V.Seq zs) = All (λ z. IsTrue (fits z)) zs
 
 -- a value, or the trap that stopped its evaluation
 abbrev pub Evaluated : Type 0

@@ -1,11 +1,16 @@
 -- What is true of a tree by its form alone: of every tree that a text spells.
-use Rattle.std.specs.Prelude.{◌≡◌, ◌≢◌, false, List, [], ◌∷◌, ◌++◌, All}
+use Rattle.std.specs.Prelude.{◌≡◌, ◌≢◌, Bool, true, false, ◌&&◌, List, [], ◌∷◌, ◌++◌, Option, None, Some}
+use Rattle.std.specs.Prelude.{All, IsTrue}
 use Rattle.std.specs.List.{flat_map}
 use Rattle.seuss_program.specs.declared.tree.Name.{Name}
 use Rattle.seuss_program.specs.declared.tree.Kind.{Kind}
 use Rattle.seuss_program.specs.declared.tree.Kind.TheVariants as K
 use Rattle.seuss_program.specs.declared.tree.Param.{Param}
 use Rattle.seuss_program.specs.declared.tree.Var.{Var}
+use Rattle.seuss_program.specs.declared.tree.Node.TheOpen as N
+use Rattle.seuss_program.specs.declared.tree.Node.TheOpen.{Node-F}
+use Rattle.seuss_program.specs.declared.tree.Expr.{Expr, fold-Expr}
+use Rattle.seuss_program.specs.declared.tree.Pre.{Pre}
 use Rattle.seuss_program.specs.declared.tree.Statement.{Statement, fold-Statement}
 use Rattle.seuss_program.specs.declared.tree.Statement.TheOpen as S
 use Rattle.seuss_program.specs.declared.tree.Statement.TheOpen.{Statement-F}
@@ -17,6 +22,8 @@ use Rattle.seuss_program.specs.declared.tree.Cat.{Cat}
 use Rattle.seuss_program.specs.declared.tree.Tree.{Tree}
 use Rattle.seuss_program.specs.declared.state.Value.{Value}
 use Rattle.seuss_program.specs.declared.state.Value.TheVariants as V
+use Rattle.seuss_program.specs.Values.{fits, HasSize}
+use Rattle.seuss_program.specs.Keeping.{all_true}
 
 -- a type of parameters and locals
 abbrev pub IsSmall : Kind → Type 0
@@ -45,6 +52,53 @@ let_kinds s = fold-Statement Name (List Kind) kinds_step s
 abbrev pub HasSmallLocals : List (Statement Name) → Type 0
 HasSmallLocals body = All IsSmall (flat_map let_kinds body)
 
+-- whether each number in an expression has 64 bits
+abbrev pub node_numbers : Node-F Name Bool Bool → Bool
+node_numbers (N.Int z) = fits z
+node_numbers (N.Bool b) = true
+node_numbers N.Empty = true
+node_numbers (N.Name name) = true
+node_numbers (N.Neg e) = e
+node_numbers (N.Not e) = e
+node_numbers (N.Two op l r) = l && r
+node_numbers (N.One fun e) = e
+
+unfoldable pub has_numbers : Expr Name → Bool
+has_numbers e = fold-Expr Name Bool Bool node_numbers (λ layer. layer.node) e
+
+abbrev pub have_numbers : List (Expr Name) → Bool
+have_numbers [] = true
+have_numbers (e ∷ es) = has_numbers e && have_numbers es
+
+-- and so on for what contains expressions
+abbrev pub numbers_step : Statement-F Name Bool → Bool
+numbers_step (S.Let name kind e) = has_numbers e
+numbers_step (S.Assign name e) = has_numbers e
+numbers_step (S.Call bind call) = have_numbers call.args
+numbers_step (S.If cond holds fails) = has_numbers cond && (all_true holds && all_true fails)
+numbers_step (S.While cond turn) = has_numbers cond && all_true turn
+
+unfoldable pub statement_numbers : Statement Name → Bool
+statement_numbers s = fold-Statement Name Bool numbers_step s
+
+abbrev pub body_numbers : List (Statement Name) → Bool
+body_numbers [] = true
+body_numbers (s ∷ ss) = statement_numbers s && body_numbers ss
+
+abbrev pub pre_numbers : Option (Pre Name) → Bool
+pre_numbers None = true
+pre_numbers (Some pre) = have_numbers pre.call.args
+
+abbrev pub alternative_numbers : List (Alternative Name) → Bool
+alternative_numbers [] = true
+alternative_numbers (a ∷ as_) =
+    (has_numbers a.cond && (pre_numbers a.pre && body_numbers a.body)) && alternative_numbers as_
+
+abbrev pub form_numbers : Form Name → Bool
+form_numbers (F.Total body) = body_numbers body
+form_numbers (F.Partial alternatives) = alternative_numbers alternatives
+form_numbers (F.Action alternatives) = alternative_numbers alternatives
+
 -- there is an alternative, and the locals of each are no sequences
 pub record AreWellFormed (alternatives : List (Alternative Name)) : Type 0 where
   pub some : alternatives ≢ []
@@ -60,17 +114,21 @@ HasWellFormed q (F.Total body) = HasSmallLocals body
 HasWellFormed q (F.Partial alternatives) = AreWellFormed alternatives
 HasWellFormed q (F.Action alternatives) = AreWellFormed alternatives × IsAlone q
 
--- the parameters of a procedure are no sequences, and so on for what it consists of
+-- the parameters of a procedure are no sequences, and so on for what it consists of; its numbers have 64
+-- bits
 pub record IsWellFormedProcedure (q : Proc Name) : Type 0 where
   pub params : All (λ (x : Param). IsSmall x.kind) q.params
   pub form : HasWellFormed q q.form
+  pub numbers : IsTrue (form_numbers q.form)
 
--- each start value of a cat is of its variable's type
+-- each start value of a cat is of its variable's type, and its numbers have 64 bits
 pub record IsWellFormedCat (c : Cat Name) : Type 0 where
   pub starts : All (λ (v : Var). HasKind v.start v.kind) c.vars
+  pub sizes : All (λ (v : Var). HasSize v.start) c.vars
   pub procs : All IsWellFormedProcedure c.procs
 
 -- A tree is well formed where start values have the types of their variables, parameters and locals are no
--- sequences, actions have no parameters and no result, and each partial procedure has an alternative.
+-- sequences, actions have no parameters and no result, each partial procedure has an alternative, and every
+-- number has 64 bits.
 abbrev pub IsWellFormed : Tree → Type 0
 IsWellFormed tree = All IsWellFormedCat tree.cats

@@ -23,7 +23,7 @@ use Rattle.shape_terms.specs.Points.{Point, HasNumbers}
 use Rattle.shape_terms.specs.Numbers.{atom}
 use Rattle.shape_terms.specs.Sequences.{numbers}
 use Rattle.shape_terms.specs.Symbols.{value_at}
-use Rattle.shape_terms.specs.Covers.{HasBits}
+use Rattle.shape_terms.proofs.Bits.{HasBits}
 use Rattle.shape_terms.specs.Cases.{atoms_from, exact_choice, long_choice, sequence_choices, var_choices}
 use Rattle.shape_terms.proofs.LengthLemmas.{number_of_atom}
 use Rattle.shape_terms.proofs.Members.{Within, within_left, within_right, within_map}

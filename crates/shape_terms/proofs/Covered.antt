@@ -13,14 +13,14 @@ use Rattle.seuss_program.specs.declared.tree.Hint.{Hint}
 use Rattle.seuss_program.specs.declared.tree.Semi.{Semi}
 use Rattle.seuss_program.specs.declared.tree.Cat.{Cat}
 use Rattle.seuss_program.specs.declared.program.Program.{Program}
-use Rattle.seuss_program.specs.Keeping.{Keeps, KeepsCat, kind_of, var_kinds, param_kinds, method_at}
+use Rattle.seuss_program.specs.Keeping.{AreOf, Keeps, KeepsCat, kind_of, var_kinds, param_kinds, method_at}
 use Rattle.shape_terms.specs.declared.apart.Apart.TheVariants as A
 use Rattle.shape_terms.specs.declared.symbol.Symbol.{Symbol}
 use Rattle.shape_terms.specs.declared.case.Case.{Case}
 use Rattle.shape_terms.specs.Points.{Point, HasNumbers, point_of}
 use Rattle.shape_terms.specs.Symbols.{IsOf}
 use Rattle.shape_terms.specs.Texts.{in_form}
-use Rattle.shape_terms.specs.Covers.{HasBits, AreOf}
+use Rattle.shape_terms.proofs.Bits.{HasBits, all_bits_of}
 use Rattle.shape_terms.specs.Cases.{depth_of, vars_choices, param_choices, rows_of, cases_with, cases_from}
 use Rattle.shape_terms.specs.Cases.{cases_between, HasFew, pair_of, pair_at, Pair, choices_of_vars}
 use Rattle.shape_terms.specs.Cases.{choices_of_first, choices_of_second, cases_of}
@@ -90,8 +90,8 @@ pub record IsCovered (pair : Pair) (state args others : List Value) : Type 0 whe
 
 pub covered : (pair : Pair) (state args others : List Value) →
     All (λ (h : Hint Ref). h.depth ≤ 4) pair.hints →
-    AreOf (var_kinds pair.cat.vars) state → AreOf (param_kinds pair.first.params) args →
-    AreOf (param_kinds pair.second.params) others →
+    AreOf state (var_kinds pair.cat.vars) → AreOf args (param_kinds pair.first.params) →
+    AreOf others (param_kinds pair.second.params) →
     IsCovered pair state args others
 covered pair state args others few s a o =
     let v : ℕ = length pair.cat.vars in
@@ -99,16 +99,19 @@ covered pair state args others few s a o =
     let one : Filled 0 (0 + length (choices_of_vars pair)) (rows_of (choices_of_vars pair)) state
     (point_of A.Zero) =
     fill (choices_of_vars pair) state 0 ([] ∷ []) [] (point_of A.Zero)
-    (can_vars 0 pair.first pair.second pair.hints pair.cat.vars state few s.same s.bits) zero_fits
+    (can_vars 0 pair.first pair.second pair.hints pair.cat.vars state few s.kinds
+    (all_bits_of state s.sizes)) zero_fits
     (no_row 0 (point_of A.Zero)) in
     let two : Filled v (v + length (choices_of_first pair))
     (rows_of (choices_of_first pair)) args one.point =
     fill (choices_of_first pair) args v ([] ∷ []) [] one.point
-    (can_params v pair.first.params args a.same a.bits) one.numbers (no_row v one.point) in
+    (can_params v pair.first.params args a.kinds (all_bits_of args a.sizes)) one.numbers
+    (no_row v one.point) in
     let three : Filled m (m + length (choices_of_second pair))
     (rows_of (choices_of_second pair)) others two.point =
     fill (choices_of_second pair) others m ([] ∷ []) [] two.point
-    (can_params m pair.second.params others o.same o.bits) two.numbers (no_row m two.point) in
+    (can_params m pair.second.params others o.kinds (all_bits_of others o.sizes)) two.numbers
+    (no_row m two.point) in
     let first_end : 0 + length (choices_of_vars pair) ≤ v =
     omega (arith, length_of_vars 0 pair.first pair.second pair.hints pair.cat.vars) in
     let second_end : v + length (choices_of_first pair) ≤ m =

@@ -18,7 +18,7 @@ use Rattle.seuss_program.specs.declared.tree.Var.{Var}
 use Rattle.seuss_program.specs.declared.tree.Param.{Param}
 use Rattle.seuss_program.specs.declared.tree.Proc.{Proc}
 use Rattle.seuss_program.specs.declared.tree.Hint.{Hint}
-use Rattle.seuss_program.specs.Keeping.{kind_of, var_kinds, param_kinds}
+use Rattle.seuss_program.specs.Keeping.{AreOf, kind_of, var_kinds, param_kinds}
 use Rattle.shape_terms.specs.declared.num_form.NumForm.{NumForm}
 use Rattle.shape_terms.specs.declared.shape.Shape.{Shape}
 use Rattle.shape_terms.specs.declared.shape.Shape.TheVariants as Q
@@ -30,7 +30,7 @@ use Rattle.shape_terms.specs.Numbers.{number, atom}
 use Rattle.shape_terms.specs.Sequences.{numbers, items}
 use Rattle.shape_terms.specs.Symbols.{value_at, values_at, IsOf}
 use Rattle.shape_terms.specs.Texts.{in_form}
-use Rattle.shape_terms.specs.Covers.{HasBits, AreOf}
+use Rattle.shape_terms.proofs.Bits.{HasBits, all_sizes_of}
 use Rattle.shape_terms.specs.Cases.{atoms_from, exact_choice, long_choice, sequence_choices, depth_of}
 use Rattle.shape_terms.specs.Cases.{var_choices, vars_choices, param_choices, rows_of, cases_with}
 use Rattle.shape_terms.specs.Cases.{cases_from, Pair, choices_of_vars, choices_of_first, choices_of_second}
@@ -39,7 +39,8 @@ use Rattle.shape_terms.proofs.LengthLemmas.{length_of_numbers, length_of_long}
 use Rattle.shape_terms.proofs.Members.{Within, within_append_back, within_map_back, within_flat_back}
 use Rattle.shape_terms.proofs.Picks.{Picks, picks_of_row, IsUnique, AreUnique, unique_picks}
 
-length_of_atoms : (first many : ℕ) → length (atoms_from first many) ≡ many
+-- as many atoms as are asked for
+pub length_of_atoms : (first many : ℕ) → length (atoms_from first many) ≡ many
 length_of_atoms first many = length-map-range_with_len atom first many
 
 below_range : (first many x : ℕ) → Within (range_with_len first many) x → x < first + many
@@ -285,25 +286,25 @@ kinds_of_params place (x ∷ xs) (s ∷ ss) p picks = joined _ _ _ _
     (kind_of_choice x.kind place true 0 0 s p picks.0) (kinds_of_params (place + 1) xs ss p picks.1)
 
 pub vars_at_point : (pair : Pair) (c : Case) (p : Point) → Within (cases_of pair) c → HasNumbers p →
-    AreOf (var_kinds pair.cat.vars) (values_at c.vars p)
+    AreOf (values_at c.vars p) (var_kinds pair.cat.vars)
 vars_at_point pair c p h has = record {
-  same =
+  kinds =
       kinds_of_vars 0 pair.first pair.second pair.hints pair.cat.vars c.vars p (rows_of_case pair c h).vars;
-  bits = all_bits c.vars p has;
+  sizes = all_sizes_of (values_at c.vars p) (all_bits c.vars p has);
 }
 
 pub first_at_point : (pair : Pair) (c : Case) (p : Point) → Within (cases_of pair) c → HasNumbers p →
-    AreOf (param_kinds pair.first.params) (values_at c.first p)
+    AreOf (values_at c.first p) (param_kinds pair.first.params)
 first_at_point pair c p h has = record {
-  same = kinds_of_params (length pair.cat.vars) pair.first.params c.first p (rows_of_case pair c h).first;
-  bits = all_bits c.first p has;
+  kinds = kinds_of_params (length pair.cat.vars) pair.first.params c.first p (rows_of_case pair c h).first;
+  sizes = all_sizes_of (values_at c.first p) (all_bits c.first p has);
 }
 
 pub second_at_point : (pair : Pair) (c : Case) (p : Point) → Within (cases_of pair) c → HasNumbers p →
-    AreOf (param_kinds pair.second.params) (values_at c.second p)
+    AreOf (values_at c.second p) (param_kinds pair.second.params)
 second_at_point pair c p h has = record {
-  same =
+  kinds =
       kinds_of_params (length pair.cat.vars + length pair.first.params) pair.second.params c.second p
       (rows_of_case pair c h).second;
-  bits = all_bits c.second p has;
+  sizes = all_sizes_of (values_at c.second p) (all_bits c.second p has);
 }

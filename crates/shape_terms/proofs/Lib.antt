@@ -1,3 +1,4 @@
+pub mod Bits
 pub mod Products
 pub mod Wraps
 pub mod RowLemmas
@@ -20,5 +21,6 @@ pub mod Fillings
 pub mod Covered
 pub mod Picks
 pub mod Distinct
+pub mod NoCaseTwice
 pub mod CountLemmas
 pub mod RowCounts

@@ -5,5 +5,4 @@ pub mod Sequences
 pub mod Symbols
 pub mod Texts
 pub mod Cases
-pub mod Covers
 pub mod Counts

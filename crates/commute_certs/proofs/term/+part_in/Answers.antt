@@ -7,7 +7,7 @@ use Rattle.shape_terms.specs.declared.symbol.Symbol.TheVariants as Y
 use Rattle.commute_certs.specs.declared.part.Part.TheVariants as P
 use Rattle.commute_certs.specs.Terms.{part_of}
 use Rattle.commute_certs.specs.Answers.{Tells}
-use Rattle.commute_certs.proofs.Comparisons.{fitting}
+use Rattle.shape_terms.proofs.Bits.{fitting}
 use Rattle.commute_certs.proofs.Nodes.{handed_on, same_part, int_told, bool_told, empty_told, name_told}
 use Rattle.commute_certs.proofs.Nodes.{neg_stopped, neg_told, not_stopped, not_told, one_stopped, one_told}
 use Rattle.commute_certs.proofs.Nodes.{left_stopped, decision_stopped, left_decides, right_stopped}

@@ -6,7 +6,7 @@ use Rattle.meaning_laws.proofs.forms.attempts_keep_form.Goals as goal
 pub returns : goal.returns
 returns c = record {
   state = λ p depth box number q args state budget keeps there typed form.
-      (attempt-keeps-form p keeps depth).by box number q args state budget there typed form;
+      ((attempt-keeps-form p keeps depth).by box number q args state budget there typed form).state_is;
   result = attempt-has;
   action = λ p action state budget keeps form. action-form p keeps action state budget form;
   action_result = λ p action state budget keeps. action-result p keeps action state budget;
