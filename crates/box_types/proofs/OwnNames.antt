@@ -20,11 +20,11 @@ use Rattle.box_types.specs.Faults.{twice}
 use Rattle.box_types.specs.OwnNames.{ProcsDiffer, HasOwnNames}
 
 -- where two lists put together are empty, both are
-none_first : (xs ys : List ℕ) → xs ++ ys ≡ [] → xs ≡ []
+pub none_first : (xs ys : List ℕ) → xs ++ ys ≡ [] → xs ≡ []
 none_first [] ys none = refl
 none_first (x ∷ xs) ys none = cc
 
-none_second : (xs ys : List ℕ) → xs ++ ys ≡ [] → ys ≡ []
+pub none_second : (xs ys : List ℕ) → xs ++ ys ≡ [] → ys ≡ []
 none_second [] ys none = none
 none_second (x ∷ xs) ys none = cc
 
@@ -57,7 +57,7 @@ walked_none at n (x ∷ xs) scope (suc k) m d none within is =
     (none_second first.lines (walked at (n + 1) xs first.scope).lines none) (omega arith) (omega arith)
 
 -- a place that has no line doesn't fail
-no_failure : (b : Bool) (line : ℕ) → fails b line ≡ [] → b ≡ false
+pub no_failure : (b : Bool) (line : ℕ) → fails b line ≡ [] → b ≡ false
 no_failure true line none = cc
 no_failure false line none = refl
 
@@ -74,7 +74,7 @@ not_earlier name_of (x ∷ xs) (suc i) (suc j) d name before within none =
     (or_parts (same (name_of x) name) (has_name name_of (take j xs) name) none).1
 
 -- names that aren't the same have other texts
-texts_differ : (a b : Name) → same a b ≡ false → a.text ≢ b.text
+pub texts_differ : (a b : Name) → same a b ≡ false → a.text ≢ b.text
 texts_differ a b other = not_from_Decides (bytes_eq a.text b.text) (bytes_eq-Decides a.text b.text) other
 
 -- where each item has no name of one before it, no two have the same name

@@ -9,11 +9,13 @@ use Rattle.seuss_program.specs.declared.tree.Cat.{Cat}
 use Rattle.seuss_program.specs.declared.program.ActionInfo.{ActionInfo}
 use Rattle.seuss_program.specs.declared.program.BoxInfo.{BoxInfo}
 
+-- whether a procedure is an action
 abbrev pub is_action : Form Ref → Bool
 is_action (F.Total ss) = false
 is_action (F.Partial alts) = false
 is_action (F.Action alts) = true
 
+-- the action of this number among the procedures of this box
 abbrev pub an_action : ℕ → ℕ → ActionInfo
 an_action box number = record { box_number = box; procedure = number }
 
@@ -24,6 +26,7 @@ actions_among box number (q ∷ qs) =
     if is_action q.form then an_action box number ∷ actions_among box (number + 1) qs
     else actions_among box (number + 1) qs
 
+-- the procedures of a cat; a cat that isn't there has none
 abbrev pub procedures_in : Option (Cat Ref) → List (Proc Ref)
 procedures_in None = []
 procedures_in (Some c) = c.procs

@@ -14,10 +14,11 @@ abbrev pub is_another : Option ℕ → ℕ → Bool
 is_another None n = false
 is_another (Some declared) n = not (declared == n)
 
--- how many arguments a method takes, and how many boxes a cat is given
+-- how many arguments a method takes, where it is known
 abbrev pub taken_by : Option (Proc Name) → Option ℕ
 taken_by q = option_map (λ (q : Proc Name). length q.params) q
 
+-- how many boxes a cat is given, where it is known
 abbrev pub given_to : Option (Cat Name) → Option ℕ
 given_to c = option_map (λ (c : Cat Name). length c.given) c
 

@@ -18,9 +18,11 @@ use Rattle.seuss_program.specs.declared.tree.Cat.{Cat}
 use Rattle.seuss_program.specs.declared.tree.Tree.{Tree}
 use Rattle.seuss_program.specs.declared.state.Value.TheVariants as V
 
+-- a name with this text, on line 0
 abbrev pub word : List ℕ → Name
 word text = record { text = text; line = 0 }
 
+-- an expression with this node, on line 0
 abbrev pub expression : Node Name → Expr Name
 expression node = record { line = 0; node = node }
 
@@ -28,15 +30,19 @@ expression node = record { line = 0; node = node }
 abbrev pub queue : List Var
 queue = record { name = word (codes "q"); kind = K.Seq; start = V.Seq [] } ∷ []
 
+-- the name with this text, as an expression
 abbrev pub use_of : List ℕ → Expr Name
 use_of text = expression (N.Name (word text))
 
+-- a function of the variable `q`, such as `first(q)`
 abbrev pub of_queue : Fun → Expr Name
 of_queue fun = expression (N.One fun (use_of (codes "q")))
 
+-- an operator over two parts
 abbrev pub two : Op → Expr Name → Expr Name → Expr Name
 two op left right = expression (N.Two op left right)
 
+-- the name with this text takes the value of an expression
 abbrev pub assignment : List ℕ → Expr Name → Statement Name
 assignment text e = S.Assign (word text) e
 

@@ -21,20 +21,26 @@ test_of C.WrongType = type_at
 test_of C.Arguments = arguments_at
 test_of C.Count = count_at
 
+-- the lines of the names, certificates and hints of a text that stand twice, in its order
 abbrev pub twice : Tree → List ℕ
 twice tree = found twice_at (with_built_ins tree)
 
+-- the lines of the names that are declared nowhere where they are visible, in the order of the text
 abbrev pub unknown : Tree → List ℕ
 unknown tree = found unknown_at (with_built_ins tree)
 
+-- the lines of the names that are declared as something else than used, in the order of the text
 abbrev pub wrong_kind : Tree → List ℕ
 wrong_kind tree = found kind_at (with_built_ins tree)
 
+-- the lines of what has another type than is wanted, in the order of the text
 abbrev pub wrong_type : Tree → List ℕ
 wrong_type tree = found type_at (with_built_ins tree)
 
+-- the lines of calls and boxes with another number of arguments than declared, in the order of the text
 abbrev pub arguments : Tree → List ℕ
 arguments tree = found arguments_at (with_built_ins tree)
 
+-- the lines of the first items that pass a limit, in the order of the text
 abbrev pub count : Tree → List ℕ
 count tree = found count_at (with_built_ins tree)

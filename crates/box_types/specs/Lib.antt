@@ -4,6 +4,8 @@ pub mod ArgumentCounts
 pub mod BuiltInTexts
 pub mod Faults
 pub mod Limits
+pub mod Locals
+pub mod Meanings
 pub mod Namings
 pub mod OwnNames
 pub mod Refusals

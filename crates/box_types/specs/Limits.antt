@@ -29,7 +29,7 @@ passes cats before b =
     nat_lt (actions_of cats before) 257
     && nat_lt 256 (actions_of cats before + actions_in (cat_named cats b.cat))
 
--- the result of a procedure has a slot of its own behind the parameters, and stands at the name
+-- the result of a procedure has a slot of its own after the parameters, and stands at the name
 abbrev pub result_passes : Proc Name → Bool
 result_passes q = q.gives && length q.params == 32
 

@@ -45,9 +45,11 @@ ref_of (M.GivenBox n) = R.Given n
 ref_of (M.Procedure n) = R.Method n
 ref_of M.Nothing = R.Var 0
 
+-- the number of what a name stands for at a place of a procedure
 abbrev pub name_ref : Cat Name → List Local → Name → Ref
 name_ref own visible name = ref_of (meaning_of own visible name)
 
+-- one node of an expression with its names as numbers, over its parts
 abbrev pub node_step : Cat Name → List Local → Node-F Name (Node Ref) (Expr Ref) → Node Ref
 node_step own visible (L.Int z) = N.Int z
 node_step own visible (L.Bool b) = N.Bool b
@@ -69,6 +71,7 @@ abbrev pub method_in : Option (Cat Name) → Name → Ref
 method_in None name = R.Method 0
 method_in (Some c) name = R.Method (unwrap_or (proc_number c name) 0)
 
+-- a call with its names as numbers
 abbrev pub call : List (Cat Name) → Cat Name → List Local → Call Name → Call Ref
 call cats own visible c = record {
   target = name_ref own visible c.target;
@@ -76,11 +79,12 @@ call cats own visible c = record {
   args = map (expression own visible) c.args;
 }
 
--- a part with its names as numbers, and the scope behind it
+-- a part with its names as numbers, and the scope after it
 pub record Numbered (A : Type 0) : Type 0 where
   pub part : A
   pub scope : Scope
 
+-- what becomes of a statement, by the scope ahead of it
 abbrev pub Numbering : Type 0
 Numbering = Scope → Numbered (Statement Ref)
 
@@ -120,6 +124,7 @@ statement_step cats own (P.While cond turn) scope =
       scope = behind scope inside.scope;
     }
 
+-- a statement with its names as numbers, by the scope ahead of it
 unfoldable pub statement : List (Cat Name) → Cat Name → Statement Name → Numbering
 statement cats own s = fold-Statement Name Numbering (statement_step cats own) s
 
@@ -145,13 +150,17 @@ module _ (cats : List (Cat Name)) (own : Cat Name) where
     scope = declared name K.Int false scope;
   }
 
+  -- a preprocedure with its names as numbers, as one that is there
   abbrev pub some_pre : Numbered (Pre Ref) → Numbered (Option (Pre Ref))
   some_pre n = record { part = Some n.part; scope = n.scope }
 
+  -- a preprocedure with its names as numbers, where there is one, and the scope after it
   abbrev pub early : Option (Pre Name) → Scope → Numbered (Option (Pre Ref))
   early None scope = record { part = None; scope = scope }
   early (Some pre) scope = some_pre (bound pre.bind pre.call scope)
 
+  -- an alternative with its names as numbers; names of its own aren't visible after it, and keep their
+  -- slots
   abbrev pub alternative : Alternative Name → Scope → Numbered (Alternative Ref)
   alternative a scope =
       let first = early a.pre scope in let rest = body a.body first.scope in record {
@@ -165,16 +174,19 @@ module _ (cats : List (Cat Name)) (own : Cat Name) where
         scope = behind scope rest.scope;
       }
 
+  -- alternatives one after the other, with their names as numbers
   abbrev pub alternatives : List (Alternative Name) → Scope → List (Alternative Ref)
   alternatives [] scope = []
   alternatives (a ∷ rest) scope =
       let first = alternative a scope in first.part ∷ alternatives rest first.scope
 
+  -- the body or the alternatives of a procedure, with their names as numbers
   abbrev pub form : Form Name → Scope → Form Ref
   form (F.Total ss) scope = F.Total (body ss scope).part
   form (F.Partial alts) scope = F.Partial (alternatives alts scope)
   form (F.Action alts) scope = F.Action (alternatives alts scope)
 
+  -- a procedure with its names as numbers
   abbrev pub procedure : Proc Name → Proc Ref
   procedure q = record {
     name = q.name;
@@ -193,6 +205,7 @@ hint own h = record {
       h.line;
 }
 
+-- a certificate with its methods and the variables of its hints as numbers
 abbrev pub semi : Cat Name → Semi Name → Semi Ref
 semi own s = record {
   line = s.line;
@@ -201,16 +214,19 @@ semi own s = record {
   hints = map (hint own) s.hints;
 }
 
--- the number of a cat, and of a box
+-- the number of a cat by its name
 abbrev pub cat_number : List (Cat Name) → Name → ℕ
 cat_number cats name = unwrap_or (number_of (λ (c : Cat Name). c.name) cats name) 0
 
+-- the number of a box by its name, in order of declaration
 abbrev pub box_number : List BoxDecl → Name → ℕ
 box_number boxes name = unwrap_or (number_of (λ (b : BoxDecl). b.name) boxes name) 0
 
+-- a given box of a cat, with the number of its cat
 abbrev pub given : List (Cat Name) → Given Name → Given Ref
 given cats g = record { name = g.name; cat = R.Cat (cat_number cats g.cat) }
 
+-- a cat with its names as numbers
 abbrev pub cat : List (Cat Name) → Cat Name → Cat Ref
 cat cats own = record {
   name = own.name;

@@ -21,10 +21,11 @@ use Rattle.box_types.specs.declared.scopes.Meaning.TheVariants as M
 abbrev pub same : Name → Name → Bool
 same a b = bytes_eq a.text b.text
 
--- the first item with this name, and its place, counted from 0
+-- the first item with this name
 abbrev pub named : {X : Type 0} → (X → Name) → List X → Name → Option X
 named name_of xs name = find (λ x. same (name_of x) name) xs
 
+-- the place of the first item with this name, counted from 0
 abbrev pub number_of : {X : Type 0} → (X → Name) → List X → Name → Option ℕ
 number_of name_of xs name = position_from (λ x. same (name_of x) name) 0 xs
 
@@ -32,10 +33,11 @@ number_of name_of xs name = position_from (λ x. same (name_of x) name) 0 xs
 abbrev pub cat_named : List (Cat Name) → Name → Option (Cat Name)
 cat_named cats name = named (λ (c : Cat Name). c.name) cats name
 
--- the number of a name among the given boxes and the procedures of a cat
+-- the number of a name among the given boxes of a cat
 abbrev pub given_number : Cat Name → Name → Option ℕ
 given_number own name = number_of (λ (g : Given Name). g.name) own.given name
 
+-- the number of a name among the procedures of a cat
 abbrev pub proc_number : Cat Name → Name → Option ℕ
 proc_number own name = number_of (λ (q : Proc Name). q.name) own.procs name
 
@@ -48,25 +50,30 @@ abbrev pub or_else : {X : Type 0} → Option X → Option X → Option X
 or_else (Some x) o = Some x
 or_else None o = o
 
--- what a name stands for as a local, as a variable, as a given box and as a procedure
+-- what a local stands for: its slot, its type, and whether it is a parameter
 abbrev pub as_local : Local → Meaning
 as_local l = M.Slot l.slot l.kind l.is_param
 
+-- what a name stands for among the visible locals, where it is one
 abbrev pub local_meaning : List Local → Name → Option Meaning
 local_meaning visible name = option_map as_local (named (λ (l : Local). l.name) visible name)
 
+-- the type of a variable; one that isn't there counts as an int
 abbrev pub kind_in : Option Var → Kind
 kind_in (Some v) = v.kind
 kind_in None = K.Int
 
+-- what a name stands for among variables, where it is one
 abbrev pub var_meaning : List Var → Name → Option Meaning
 var_meaning vars name =
     option_map (λ n. M.Variable n (kind_in (named (λ (v : Var). v.name) vars name)))
     (number_of (λ (v : Var). v.name) vars name)
 
+-- what a name stands for among the given boxes of a cat, where it is one
 abbrev pub given_meaning : Cat Name → Name → Option Meaning
 given_meaning own name = option_map M.GivenBox (given_number own name)
 
+-- what a name stands for among the procedures of a cat, where it is one
 abbrev pub proc_meaning : Cat Name → Name → Option Meaning
 proc_meaning own name = option_map M.Procedure (proc_number own name)
 
@@ -114,11 +121,11 @@ declared name kind is_param scope = record {
   earlier = scope.earlier ++ name ∷ [];
 }
 
--- behind a block its names aren't visible any more, and keep their slots
+-- after a block its names aren't visible any more, and keep their slots
 abbrev pub behind : Scope → Scope → Scope
 behind before inside = record inside { visible = before.visible }
 
--- the result of a procedure that has one is a local of type int, with the slot behind its parameters
+-- the result of a procedure as a local: of type int, with the slot after the parameters
 abbrev pub the_result : Proc Name → Local
 the_result q = record {
   name = record { text = codes "result"; line = 0 };
@@ -127,6 +134,7 @@ the_result q = record {
   is_param = false;
 }
 
+-- the result as a visible local, where the procedure has one
 abbrev pub result_local : Proc Name → List Local
 result_local q = if q.gives then the_result q ∷ [] else []
 
@@ -134,6 +142,6 @@ result_local q = if q.gives then the_result q ∷ [] else []
 abbrev pub at_head : Proc Name → List Name → Scope
 at_head q earlier = record { visible = result_local q; next = 0; earlier = earlier }
 
--- behind the parameters the result has the next slot
+-- after the parameters the result has the next slot
 abbrev pub with_result : Proc Name → Scope → Scope
 with_result q scope = record scope { next = if q.gives then scope.next + 1 else scope.next }

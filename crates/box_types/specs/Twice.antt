@@ -25,15 +25,19 @@ fails false line = []
 abbrev pub has_name : {X : Type 0} → (X → Name) → List X → Name → Bool
 has_name name_of xs name = list_any (λ x. same (name_of x) name) xs
 
+-- whether one of these given boxes has the name
 abbrev pub has_given : List (Given Name) → Name → Bool
 has_given gs name = has_name (λ (g : Given Name). g.name) gs name
 
+-- whether one of these variables has the name
 abbrev pub has_var : List Var → Name → Bool
 has_var vs name = has_name (λ (v : Var). v.name) vs name
 
+-- whether one of these procedures has the name
 abbrev pub has_proc : List (Proc Name) → Name → Bool
 has_proc qs name = has_name (λ (q : Proc Name). q.name) qs name
 
+-- whether one of these locals has the name
 abbrev pub has_local : List Local → Name → Bool
 has_local ls name = has_name (λ (l : Local). l.name) ls name
 

@@ -15,7 +15,7 @@ use Rattle.box_types.specs.Walks.{CatName, GivenName, VarName, ProcName, LocalNa
 use Rattle.box_types.specs.Walks.{Assigned, Takes, Target, Method, First, Second, HintName, BoxName, BoxCat}
 use Rattle.box_types.specs.Walks.{BoxGiven, Test}
 
--- what is found at each name of an expression, in the order of the text
+-- what is found at the names of one node of an expression, over its parts
 abbrev pub names_step : (Name → List ℕ) → Node-F Name (List ℕ) (List ℕ) → List ℕ
 names_step at (L.Int z) = []
 names_step at (L.Bool b) = []
@@ -26,6 +26,7 @@ names_step at (L.Not e) = e
 names_step at (L.Two op l r) = l ++ r
 names_step at (L.One fun e) = e
 
+-- what is found at each name of an expression, in the order of the text
 unfoldable pub in_names : (Name → List ℕ) → Expr Name → List ℕ
 in_names at e = fold-Expr Name (List ℕ) (List ℕ) (names_step at) (λ layer. layer.node) e
 
@@ -42,15 +43,19 @@ abbrev pub is_undeclared : Option (Cat Name) → Name → Bool
 is_undeclared None name = false
 is_undeclared (Some c) name = is_nothing (meaning_in c name)
 
+-- the line of a name that stands for nothing at a place of a procedure
 abbrev pub unknown_name : Cat Name → List Local → Name → List ℕ
 unknown_name own visible name = fails (is_nothing (meaning_of own visible name)) name.line
 
+-- the line of a name that stands for nothing in a cat, outside its procedures
 abbrev pub unknown_in : Cat Name → Name → List ℕ
 unknown_in own name = fails (is_nothing (meaning_in own name)) name.line
 
+-- the line of a name that is no cat's
 abbrev pub unknown_cat : List (Cat Name) → Name → List ℕ
 unknown_cat cats name = fails (is_none (cat_named cats name)) name.line
 
+-- the line of a name that is no box's
 abbrev pub unknown_box : List BoxDecl → Name → List ℕ
 unknown_box boxes name = fails (not (has_name (λ (a : BoxDecl). a.name) boxes name)) name.line
 

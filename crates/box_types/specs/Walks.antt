@@ -65,11 +65,12 @@ pub data Place : Type 0 where
 abbrev pub Test : Type 0
 Test = Place → List ℕ
 
--- what is found in a part of a text, and the scope behind it
+-- what is found in a part of a text, and the scope after it
 pub record Walked : Type 0 where
   pub lines : List ℕ
   pub scope : Scope
 
+-- what is found in a part of a text and the scope after it, by the scope ahead of it
 abbrev pub Walk : Type 0
 Walk = Scope → Walked
 
@@ -86,6 +87,7 @@ abbrev pub params_of : Option (Proc Name) → List Param
 params_of None = []
 params_of (Some q) = q.params
 
+-- the type of the parameter of this number, where there is one
 abbrev pub kind_at : List Param → ℕ → Option Kind
 kind_at params n = option_map (λ (p : Param). p.kind) (slice_get params n)
 
@@ -96,7 +98,7 @@ in_turn (w ∷ ws) scope =
     let first = w scope in
     let rest = in_turn ws first.scope in record { lines = first.lines ++ rest.lines; scope = rest.scope }
 
--- the parts of a block, whose names aren't visible behind it
+-- the parts of a block, whose names aren't visible after it
 abbrev pub closed : Scope → Walked → Walked
 closed before inside = record { lines = inside.lines; scope = behind before inside.scope }
 
@@ -125,6 +127,7 @@ module _ (test : Test) (cats : List (Cat Name)) where
     abbrev pub argument : List Local → List Param → ℕ → Expr Name → List ℕ
     argument visible params n e = test (Value own visible (kind_at params n) e)
 
+    -- what is found in a call: at its box, at its method and in its arguments
     abbrev pub call : List Local → Call Name → List ℕ
     call visible c =
         test (Target own visible c.target) ++ (test (Method cats own visible c)
@@ -167,6 +170,7 @@ module _ (test : Test) (cats : List (Cat Name)) where
             scope = inside.scope;
           }
 
+      -- what is found in a statement of the procedure of this number
       unfoldable pub statement : Statement Name → Walk
       statement s = fold-Statement Name Walk statement_step s
 
@@ -178,7 +182,7 @@ module _ (test : Test) (cats : List (Cat Name)) where
           let rest = body ss first.scope in record { lines = first.lines ++ rest.lines; scope = rest.scope }
 
       -- The call that an alternative begins with. A name that its result is bound to stands before the
-      -- call, and is visible from behind it on.
+      -- call, and is visible from after it on.
       abbrev pub bound : Option Name → Call Name → Walk
       bound None c scope = record { lines = call scope.visible c; scope = scope }
       bound (Some name) c scope = record {
@@ -187,6 +191,7 @@ module _ (test : Test) (cats : List (Cat Name)) where
         scope = declared name K.Int false scope;
       }
 
+      -- what is found in a preprocedure, where there is one
       abbrev pub early : Option (Pre Name) → Walk
       early None scope = record { lines = []; scope = scope }
       early (Some pre) scope = bound pre.bind pre.call scope
@@ -199,11 +204,13 @@ module _ (test : Test) (cats : List (Cat Name)) where
       abbrev pub alternative : ℕ → Alternative Name → Walk
       alternative n a scope = closed scope (three (head scope.visible n a) (early a.pre) (body a.body) scope)
 
+      -- what is found in the body or in the alternatives of a procedure
       abbrev pub form : Form Name → Walk
       form (F.Total ss) scope = body ss scope
       form (F.Partial alts) scope = walked alternative 0 alts scope
       form (F.Action alts) scope = walked alternative 0 alts scope
 
+      -- what is found at a parameter, which is visible from here on
       abbrev pub param : Param → Walk
       param p scope =
           record {
@@ -211,13 +218,13 @@ module _ (test : Test) (cats : List (Cat Name)) where
             scope = declared p.name p.kind true scope;
           }
 
-      -- the parameters of a procedure, behind which its result has a slot
+      -- the parameters of a procedure, after which its result has a slot
       abbrev pub signature : Proc Name → Walk
       signature q scope =
           let inside = walked (λ (n : ℕ). param) 0 q.params (at_head q scope.earlier) in
           record { lines = inside.lines; scope = with_result q inside.scope }
 
-    -- the procedure of this number, behind the locals of those before it
+    -- the procedure of this number, after the locals of those before it
     abbrev pub procedure : ℕ → Proc Name → Walk
     procedure n q scope = three (test (ProcName own n q scope.earlier)) (signature n q) (form n q.form) scope
 
@@ -225,15 +232,20 @@ module _ (test : Test) (cats : List (Cat Name)) where
     abbrev pub procedures : List ℕ
     procedures = (walked procedure 0 own.procs (record { visible = []; next = 0; earlier = [] })).lines
 
+    -- what is found at the given box of this number, and at its cat
     abbrev pub given : ℕ → Given Name → List ℕ
     given n g = test (GivenName own n g.name) ++ test (GivenCat cats g.cat)
 
+    -- what is found at the variable of this number
     abbrev pub variable : ℕ → Var → List ℕ
     variable n v = test (VarName own n v.name)
 
+    -- what is found at the hint of this number of a certificate
     abbrev pub hint : Semi Name → ℕ → Hint Name → List ℕ
     hint s n h = test (HintName own s n h)
 
+    -- what is found at the certificate of this number: at its first method, at its second one, at its
+    -- hints
     abbrev pub semi : ℕ → Semi Name → List ℕ
     semi n s = test (First own n s) ++ (test (Second own s.second) ++ numbered (hint s) 0 s.hints)
 
@@ -244,6 +256,7 @@ module _ (test : Test) (cats : List (Cat Name)) where
       ++ (numbered (variable own) 0 own.vars ++ (procedures own ++ numbered (semi own) 0 own.semis)))
 
   module _ (boxes : List BoxDecl) where
+    -- what is found at the box of this number that a box is given
     abbrev pub box_given : BoxDecl → ℕ → Name → List ℕ
     box_given b n name = test (BoxGiven cats boxes b n name)
 

@@ -41,17 +41,19 @@ is_no_box (M.Slot slot kind is_param) = true
 is_no_box (M.Variable n kind) = true
 is_no_box M.Nothing = false
 
--- an action, and what isn't total
+-- whether a procedure is an action
 abbrev pub is_action : Form Name → Bool
 is_action (F.Total ss) = false
 is_action (F.Partial alts) = false
 is_action (F.Action alts) = true
 
+-- whether a procedure isn't total
 abbrev pub is_not_total : Form Name → Bool
 is_not_total (F.Total ss) = false
 is_not_total (F.Partial alts) = true
 is_not_total (F.Action alts) = true
 
+-- whether a procedure is there and its form passes the test
 abbrev pub form_is : (Form Name → Bool) → Option (Proc Name) → Bool
 form_is test None = false
 form_is test (Some q) = test q.form
@@ -84,6 +86,7 @@ has_no_hint (M.Procedure n) = true
 has_no_hint (M.Slot slot kind is_param) = true
 has_no_hint M.Nothing = false
 
+-- the line of a name that stands for no value at a place of a procedure
 abbrev pub no_value : Cat Name → List Local → Name → List ℕ
 no_value own visible name = fails (is_no_value (meaning_of own visible name)) name.line
 

@@ -22,13 +22,14 @@ use Rattle.box_types.specs.Walks.{CatName, GivenName, VarName, ProcName, LocalNa
 use Rattle.box_types.specs.Walks.{Assigned, Takes, Target, Method, First, Second, HintName, BoxName, BoxCat}
 use Rattle.box_types.specs.Walks.{BoxGiven, Test, kind_of}
 
--- whether a known type isn't the one wanted
+-- whether a type isn't the one wanted
 abbrev pub is_other : Kind → Kind → Bool
 is_other K.Int K.Int = false
 is_other K.Bool K.Bool = false
 is_other K.Seq K.Seq = false
 is_other wanted kind = true
 
+-- whether both types are known and aren't the same
 abbrev pub differs : Option Kind → Option Kind → Bool
 differs None kind = false
 differs (Some wanted) None = false
@@ -73,13 +74,14 @@ gives O.Remainder = K.Int
 gives O.At = K.Int
 gives O.Add = K.Seq
 
--- whether an operator doesn't take this type on the left; `=` and `<>` take an int or a bool there
+-- whether a type is known and is that of sequences
 abbrev pub is_seq : Option Kind → Bool
 is_seq None = false
 is_seq (Some K.Int) = false
 is_seq (Some K.Bool) = false
 is_seq (Some K.Seq) = true
 
+-- whether an operator doesn't take this type on the left; `=` and `<>` take an int or a bool there
 abbrev pub refuses : Op → Option Kind → Bool
 refuses O.Or = differs (Some K.Bool)
 refuses O.And = differs (Some K.Bool)
@@ -137,6 +139,7 @@ given_by U.Rest = K.Seq
 given_by U.Front = K.Seq
 given_by U.Len = K.Int
 
+-- what has this type, or none, and no wrong parts
 abbrev pub plain : Option Kind → Typed
 plain kind = record { kind = kind; lines = [] }
 
@@ -151,30 +154,34 @@ node_step own visible (L.Not e) = one K.Bool K.Bool e
 node_step own visible (L.Two op l r) = two op l r
 node_step own visible (L.One fun e) = one K.Seq (given_by fun) e
 
+-- an expression as a part: the line of its first token, its type and its wrong parts
 unfoldable pub part : Cat Name → List Local → Expr Name → Part
 part own visible e = fold-Expr Name Typed Part (node_step own visible)
     (λ layer. record { line = layer.line; typed = layer.node }) e
 
--- a name that takes the result of a call is an int, and the method has a result
+-- whether a type is known and isn't int
 abbrev pub is_no_int : Option Kind → Bool
 is_no_int None = false
 is_no_int (Some K.Int) = false
 is_no_int (Some K.Bool) = true
 is_no_int (Some K.Seq) = true
 
+-- whether a method is known and has no result
 abbrev pub has_no_result : Option (Proc Name) → Bool
 has_no_result None = false
 has_no_result (Some q) = not q.gives
 
--- the cat that a box of this cat wants as its given box of this number, and the cat of a box
+-- the cat that a box of this cat wants as its given box of this number, where it is known
 abbrev pub wanted_cat : List (Cat Name) → Name → ℕ → Option Name
 wanted_cat cats cat n =
     option_map (λ (g : Given Name). g.cat)
     (option_and_then (λ (c : Cat Name). slice_get c.given n) (cat_named cats cat))
 
+-- the cat of the box of this name, where it is known
 abbrev pub cat_of_box : List BoxDecl → Name → Option Name
 cat_of_box boxes name = option_map (λ (b : BoxDecl). b.cat) (named (λ (b : BoxDecl). b.name) boxes name)
 
+-- whether both cats are known and aren't the same
 abbrev pub is_other_cat : Option Name → Option Name → Bool
 is_other_cat None cat = false
 is_other_cat (Some wanted) None = false

@@ -1,3 +1,4 @@
+//! The built-in cats, as a text would declare them, put in front of the cats of a text.
 ghost use Rattle.std.specs.Prelude.{◌≡◌, ◌∷◌, [], ◌≤◌, length, drop, IfOk};
 ghost use Rattle.box_types.specs.BuiltInTexts.{word, expression, queue, use_of, of_queue, two, assignment};
 ghost use Rattle.box_types.specs.BuiltInTexts.{read};

@@ -1,3 +1,4 @@
+//! The checks at the places of a call: its box, its method, and the name that takes its result.
 ghost use Rattle.std.specs.Prelude.{◌≡◌, ◌≤◌, ◌||◌, ◌==◌, not, length, slice_get, Option, option_map};
 ghost use Rattle.std.specs.Option.{option_copied};
 ghost use Rattle.box_types.specs.Answers.{Stops};

@@ -1,3 +1,4 @@
+//! The checks, and why one of them stops.
 ghost use Rattle.std.specs.Prelude.{◌≡◌};
 ghost use Rattle.box_types.specs.declared.checking.Stop.TheVariants.{Memory as OutOfMemory};
 

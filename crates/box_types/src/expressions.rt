@@ -1,3 +1,4 @@
+//! The checks of an expression: unknown names, names that are no values, and wrong types.
 ghost use Rattle.std.specs.Prelude.{◌≡◌, ◌++◌};
 ghost use Rattle.box_types.specs.Answers.{Stops, HasType};
 ghost use Rattle.box_types.specs.Twice.{fails};

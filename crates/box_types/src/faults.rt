@@ -1,3 +1,4 @@
+//! A place that fails.
 ghost use Rattle.std.specs.Prelude.{◌≡◌};
 ghost use Rattle.box_types.specs.Answers.{Stops};
 ghost use Rattle.box_types.specs.Twice.{fails};

@@ -1,3 +1,4 @@
+//! What a name means at a place, and what stands under it.
 ghost use Rattle.std.specs.Prelude.{◌≡◌, ◌<◌, length, IfSome, Option};
 ghost use Rattle.std.specs.Option.{option_copied};
 ghost use Rattle.box_types.specs.Scopes.{named, number_of as place_of_name, cat_named as cat_of_name};

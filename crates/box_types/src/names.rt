@@ -1,3 +1,4 @@
+//! What is declared under a name.
 ghost use Rattle.std.specs.Prelude.{◌≡◌};
 ghost use Rattle.seuss_program.specs.declared.tree.Name.{Name};
 

@@ -1,3 +1,4 @@
+//! Expressions, calls and statements with their names as numbers.
 ghost use Rattle.std.specs.Prelude.{◌≡◌, map, take, length, Option, Some, option_map, unwrap_or, IfOk, OnOk};
 ghost use Rattle.std.specs.Option.{option_copied};
 ghost use Rattle.box_types.specs.Scopes.{number_of as place_of_name};

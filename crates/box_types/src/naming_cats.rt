@@ -1,3 +1,4 @@
+//! Procedures, certificates, cats and boxes with their names as numbers, and the actions of a program.
 ghost use Rattle.std.specs.Prelude.{◌≡◌, ◌++◌, [], map, take, length, slice_get, Some, IfOk, OnOk};
 ghost use Rattle.box_types.specs.Namings.{bound, early, alternative, alternatives, form, with_params};
 ghost use Rattle.box_types.specs.Namings.{procedure};

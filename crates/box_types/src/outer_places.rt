@@ -1,3 +1,4 @@
+//! The checks at the places of certificates and boxes.
 ghost use Rattle.std.specs.Prelude.{◌≡◌, ◌≤◌, ◌+◌, ◌||◌, length, min, ◌<◌, ◌^◌, slice_get, Option};
 ghost use Rattle.std.specs.Prelude.{option_map};
 ghost use Rattle.std.specs.Option.{option_copied};

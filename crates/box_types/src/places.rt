@@ -1,3 +1,4 @@
+//! The checks at declared names, at values and at assigned names.
 ghost use Rattle.std.specs.Prelude.{◌≡◌, ◌≤◌, ◌<◌, ◌+◌, ◌||◌, length};
 ghost use Rattle.box_types.specs.Answers.{Stops};
 ghost use Rattle.box_types.specs.Faults.{test_of};

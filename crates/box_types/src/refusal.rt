@@ -1,3 +1,4 @@
+//! Why a text is no program.
 ghost use Rattle.std.specs.Prelude.{◌≡◌};
 ghost use Rattle.box_types.specs.declared.refusal.CheckRefusal.TheVariants.{Memory as OutOfMemory};
 

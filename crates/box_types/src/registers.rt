@@ -1,3 +1,4 @@
+//! Tables from the names of items to their numbers.
 ghost use Rattle.std.specs.Prelude.{◌≡◌, ℕ, List, OnOk, IfOk, cond, None, Some};
 ghost use Rattle.std.specs.Str.{bytes_eq};
 ghost use Rattle.box_types.specs.Registers.{HasNumbers, found};

@@ -1,3 +1,4 @@
+//! The checks of a tree in their order, and the tree with its program.
 ghost use Rattle.std.specs.Prelude.{◌≡◌};
 ghost use Rattle.seuss_program.specs.declared.tree.Tree.{Tree as TheTree};
 ghost use Rattle.seuss_program.specs.WellFormed.{IsWellFormed};

@@ -1,3 +1,4 @@
+//! The locals that are visible at a place of a procedure, and their slots.
 ghost use Rattle.std.specs.Prelude.{◌≡◌, [], take, OnOk};
 ghost use Rattle.box_types.specs.Scopes.{declared, at_head, with_result};
 

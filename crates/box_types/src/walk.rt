@@ -1,3 +1,4 @@
+//! The walk of a check through the statements of a procedure.
 ghost use Rattle.std.specs.Prelude.{◌≡◌, ◌<◌, ◌++◌, length, take, Some, Option, OnOk};
 ghost use Rattle.std.specs.Option.{option_copied};
 ghost use Rattle.seuss_program.specs.declared.tree.Kind.TheVariants as K;

@@ -1,3 +1,4 @@
+//! The walk of a check through procedures, cats and boxes.
 ghost use Rattle.std.specs.Prelude.{◌≡◌, ◌<◌, ◌≤◌, ◌++◌, [], length, take, Some, OnOk};
 ghost use Rattle.box_types.specs.Answers.{Stops, Walks};
 ghost use Rattle.box_types.specs.Faults.{test_of};

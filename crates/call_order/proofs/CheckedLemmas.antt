@@ -8,8 +8,9 @@ use Rattle.box_types.specs.Namings.{named}
 use Rattle.call_order.specs.Calls.{partial_calls, total_calls}
 use Rattle.call_order.specs.Cycles.{given_of, HasNoCycle, GivesBoxes}
 use Rattle.call_order.specs.Marks.{no_marks, marked_with, spread_times, KnowsGiven, KnowsAllGiven}
-use Rattle.call_order.specs.Levels.{AreLevels, levels_after}
-use Rattle.call_order.specs.Answers.{program_of, IsOrdered}
+use Rattle.call_order.specs.LevelLists.{AreLevels}
+use Rattle.call_order.specs.Answers.{IsOrdered}
+use Rattle.call_order.proofs.LevelRounds.{levels_after, program_of}
 use Rattle.call_order.proofs.MarkLemmas.{row_known}
 use Rattle.call_order.proofs.LevelLemmas.{are_levels, is_levelled}
 use Rattle.call_order.proofs.OrderLemmas.{gives_boxes}
@@ -23,6 +24,7 @@ module _ (boxes : List BoxInfo) (gives : GivesBoxes boxes) where
   abbrev rows : List (List Bool)
   rows = map row_of (range_with_len 0 (length boxes))
 
+  -- these marks are on exactly what the boxes are given
   known_rows : KnowsAllGiven boxes rows
   known_rows = record {
     count = length-map-range_with_len row_of 0 (length boxes);
@@ -46,6 +48,5 @@ checked_is_ordered tree partials totals none =
       partial_calls = partials;
       total_calls = totals;
       cycles = none;
-      program = refl;
       levels = is_levelled (named tree) (program_of tree) levels right refl refl refl;
     }

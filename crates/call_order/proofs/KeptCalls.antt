@@ -54,6 +54,7 @@ pub record Clean (place : Place) : Type 0 where
   pub arguments : arguments_at place ≡ []
   pub count : count_at place ≡ []
 
+-- a place where nothing is found is clean
 pub clean_by : (place : Place) → all_at place ≡ [] → Clean place
 clean_by place h =
     let h0 : unknown_at place ++ (kind_at place ++
@@ -87,6 +88,7 @@ position-get {X} test n (x ∷ xs) m h = go (test x) (position_from test (n + 1)
     go false o f h rest = let r = rest h in let e : m ≡ n + 1 + r.0 = r.2 in
         (suc r.0, r.1, omega (arith, e), r.3, r.4)
 
+-- what is found has a place
 pub find-position : {X : Type 0} (test : X → Bool) (n : ℕ) (xs : List X) (x : X) → find test xs ≡ Some x →
     (m : ℕ) × (position_from test n xs ≡ Some m)
 find-position test n [] x h = absurd (cc)
@@ -98,6 +100,7 @@ find-position {X} test n (y ∷ xs) x h = go (test y) (find test xs) (position_f
     go true f o h rest = (n, refl)
     go false f o h rest = rest h
 
+-- an item of a mapped list is that of the list, mapped
 pub get-map : {X Y : Type 0} (f : X → Y) (xs : List X) (k : ℕ) →
     slice_get (map f xs) k ≡ option_map f (slice_get xs k)
 get-map f [] k = refl
@@ -110,6 +113,7 @@ pub record At {X : Type 0} (name_of : X → Name) (xs : List X) (name : Name) (n
   pub there : slice_get xs number ≡ Some item
   pub found : Sc.named name_of xs name ≡ Some item
 
+-- the number of a name is that of the first item of this name
 pub at-number : {X : Type 0} (name_of : X → Name) (xs : List X) (name : Name) (n : ℕ) →
     Sc.number_of name_of xs name ≡ Some n → At name_of xs name n
 at-number name_of xs name n h =
@@ -125,6 +129,7 @@ settled-given (Some m) g q n no_var no_proc h = absurd (no_var m refl (cc))
 settled-given None (Some m) q n no_var no_proc h = h
 settled-given None None q n no_var no_proc h = absurd (no_proc (M.GivenBox n) h refl)
 
+-- a meaning that is a procedure is that of a procedure where no other kind of name has it
 settled-procedure : (v g q : Option Meaning) (n : ℕ) →
     ((m : Meaning) → v ≡ Some m → (m ≡ M.Procedure n → ⊥)) →
     ((m : Meaning) → g ≡ Some m → (m ≡ M.Procedure n → ⊥)) →
@@ -138,57 +143,69 @@ abbrev pub or_meaning : Meaning → Option Meaning → Meaning
 or_meaning other (Some m) = m
 or_meaning other None = other
 
+-- what a name means in a cat
 pub in-cat : (own : Cat Name) (name : Name) →
     meaning_in own name ≡ or_meaning M.Nothing
     (Sc.or_else (Sc.var_meaning own.vars name)
     (Sc.or_else (Sc.given_meaning own name) (Sc.proc_meaning own name)))
 in-cat own name = refl
 
+-- what a name means in a text
 pub in-text : (own : Cat Name) (visible : List Local) (name : Name) →
     meaning_of own visible name ≡ or_meaning (meaning_in own name) (Sc.local_meaning visible name)
 in-text own visible name = refl
 
+-- a meaning that is a given box is the first one or the other
 or-given : (o : Option Meaning) (other : Meaning) (n : ℕ) → or_meaning other o ≡ M.GivenBox n →
     (o ≡ Some (M.GivenBox n)) ⊎ (other ≡ M.GivenBox n)
 or-given (Some m) other n h = inl (ap (λ x. Some x) h)
 or-given None other n h = inr h
 
+-- a meaning that is a procedure is the first one or the other
 or-procedure : (o : Option Meaning) (other : Meaning) (n : ℕ) → or_meaning other o ≡ M.Procedure n →
     (o ≡ Some (M.Procedure n)) ⊎ (other ≡ M.Procedure n)
 or-procedure (Some m) other n h = inl (ap (λ x. Some x) h)
 or-procedure None other n h = inr h
 
+-- a local is no given box
 local-given : (l : Option Local) (n : ℕ) → option_map Sc.as_local l ≡ Some (M.GivenBox n) → ⊥
 local-given (Some l) n h = absurd (cc)
 local-given None n h = absurd (cc)
 
+-- a local is no procedure
 local-procedure : (l : Option Local) (n : ℕ) → option_map Sc.as_local l ≡ Some (M.Procedure n) → ⊥
 local-procedure (Some l) n h = absurd (cc)
 local-procedure None n h = absurd (cc)
 
+-- a variable is no given box
 var-given : (o : Option ℕ) (kind : Kind) (n : ℕ) (m : Meaning) →
     option_map (λ j. M.Variable j kind) o ≡ Some m → m ≡ M.GivenBox n → ⊥
 var-given (Some j) kind n m h e = absurd (cc)
 var-given None kind n m h e = absurd (cc)
 
+-- a variable is no procedure
 var-procedure : (o : Option ℕ) (kind : Kind) (n : ℕ) (m : Meaning) →
     option_map (λ j. M.Variable j kind) o ≡ Some m → m ≡ M.Procedure n → ⊥
 var-procedure (Some j) kind n m h e = absurd (cc)
 var-procedure None kind n m h e = absurd (cc)
 
+-- a procedure is no given box
 proc-given : (o : Option ℕ) (n : ℕ) (m : Meaning) → option_map M.Procedure o ≡ Some m → m ≡ M.GivenBox n → ⊥
 proc-given (Some j) n m h e = absurd (cc)
 proc-given None n m h e = absurd (cc)
 
+-- a given box is no procedure
 given-procedure : (o : Option ℕ) (n : ℕ) (m : Meaning) → option_map M.GivenBox o ≡ Some m →
     m ≡ M.Procedure n → ⊥
 given-procedure (Some j) n m h e = absurd (cc)
 given-procedure None n m h e = absurd (cc)
 
+-- the number of a given box is the one that was found
 given-number : (o : Option ℕ) (n : ℕ) → option_map M.GivenBox o ≡ Some (M.GivenBox n) → o ≡ Some n
 given-number (Some j) n h = cc
 given-number None n h = absurd (cc)
 
+-- the number of a procedure is the one that was found
 proc-number : (o : Option ℕ) (n : ℕ) → option_map M.Procedure o ≡ Some (M.Procedure n) → o ≡ Some n
 proc-number (Some j) n h = cc
 proc-number None n h = absurd (cc)
@@ -212,6 +229,7 @@ given_number_is own visible name n h = elim
           ]
     ]
 
+-- a name that means a procedure has its number
 pub proc_number_is : (own : Cat Name) (name : Name) (n : ℕ) → meaning_in own name ≡ M.Procedure n →
     proc_number own name ≡ Some n
 proc_number_is own name n h = elim
@@ -281,6 +299,7 @@ module _ (cats : List (Cat Name)) (own : Cat Name) (visible : List Local) (k : P
     pub numbered : P.called k (N.call cats own visible c) ≡ Some (N.procedure cats cat method)
     pub no_action : WK.is_action method.form ≡ false
 
+  -- a call with a given box and its method is named
   numbered_by : (c : Call Name) (g : Given Name) (tc : Cat Name) (q : Proc Name) (n j : ℕ) →
       meaning_of own visible c.target ≡ M.GivenBox n → slice_get own.given n ≡ Some g →
       cat_named cats g.cat ≡ Some tc → target_cat cats own visible c.target ≡ Some tc →
@@ -307,6 +326,7 @@ module _ (cats : List (Cat Name)) (own : Cat Name) (visible : List Local) (k : P
       ∙ (ap (λ o. P.method_at (R.Method (unwrap_or o 0)) (N.cat cats tc)) number
       ∙ (get-map (N.procedure cats tc) tc.procs j ∙ ap (option_map (N.procedure cats tc)) there)))))))
 
+  -- a call whose target and method are clean is named
   pub named_by : (c : Call Name) → Clean (Target own visible c.target) → Clean (Method cats own visible c) →
       Named c
   named_by c target method =
@@ -396,6 +416,7 @@ numbered-left f g n (x ∷ xs) h =
     ap (λ ls. ls ++ W.numbered f (n + 1) xs) (none-left (f n x) (g n x) here)
     ∙ numbered-left f g (n + 1) xs (none-right (f n x ++ g n x) _ h)
 
+-- where nothing is found by two searches together, nothing is found by the second
 pub numbered-right : {X : Type 0} (f g : ℕ → X → List ℕ) (n : ℕ) (xs : List X) →
     W.numbered (λ m x. f m x ++ g m x) n xs ≡ [] → W.numbered g n xs ≡ []
 numbered-right f g n [] h = refl
@@ -414,23 +435,28 @@ kind-set k (M.GivenBox n) fits h g = absurd (cc)
 kind-set k (M.Procedure n) fits h g = absurd (cc)
 kind-set k M.Nothing fits h g = absurd (cc)
 
+-- where neither of two tests holds, the left one doesn't
 either-left : (a b : Bool) → (a || b) ≡ false → a ≡ false
 either-left true b h = absurd (cc)
 either-left false b h = refl
 
+-- where neither of two tests holds, the right one doesn't
 either-right : (a b : Bool) → (a || b) ≡ false → b ≡ false
 either-right true b h = absurd (cc)
 either-right false b h = h
 
+-- what isn't another kind than int is an int
 an-int : (kind : Kind) → T.is_no_int (Some kind) ≡ false → kind ≡ K.Int
 an-int K.Int h = refl
 an-int K.Bool h = absurd (cc)
 an-int K.Seq h = absurd (cc)
 
+-- a test whose opposite fails holds
 not-false : (b : Bool) → not b ≡ false → b ≡ true
 not-false true h = refl
 not-false false h = absurd (cc)
 
+-- numbers that don't differ are the same
 same-count : (a b : ℕ) → not (a == b) ≡ false → a ≡ b
 same-count a b h = let e : (a == b) ≡ true = not-false (a == b) h in grind (arith, e)
 
@@ -444,6 +470,7 @@ module _ (cats : List (Cat Name)) (own : Cat Name) (visible : List Local) (k : P
       (clean_by (Method cats own visible c)
       (none-left _ _ (none-right (all_at (Target own visible c.target)) _ lines)))
 
+  -- a call at which nothing is found fits
   pub call_fits : (c : Call Name) (form : Form Ref → Bool) (bind : Option Ref)
       (lines : W.call all_at cats own visible c ≡ []) →
       form (N.procedure cats (kept_call c lines).cat (kept_call c lines).method).form ≡ true →
@@ -466,15 +493,15 @@ module _ (cats : List (Cat Name)) (own : Cat Name) (visible : List Local) (k : P
       ++ (type_at (Value own visible (W.kind_at q.params m) e)
       ++ (arguments_at (Value own visible (W.kind_at q.params m) e)
       ++ count_at (Value own visible (W.kind_at q.params m) e))))) 0 c.args all in
-      let behind1 = numbered-right (W.argument unknown_at cats own visible q.params)
+      let after1 = numbered-right (W.argument unknown_at cats own visible q.params)
       (λ m e. kind_at (Value own visible (W.kind_at q.params m) e)
       ++ (type_at (Value own visible (W.kind_at q.params m) e)
       ++ (arguments_at (Value own visible (W.kind_at q.params m) e)
       ++ count_at (Value own visible (W.kind_at q.params m) e)))) 0 c.args args in
-      let behind2 = numbered-right (W.argument kind_at cats own visible q.params)
+      let after2 = numbered-right (W.argument kind_at cats own visible q.params)
       (λ m e. type_at (Value own visible (W.kind_at q.params m) e)
       ++ (arguments_at (Value own visible (W.kind_at q.params m) e)
-      ++ count_at (Value own visible (W.kind_at q.params m) e))) 0 c.args behind1 in
+      ++ count_at (Value own visible (W.kind_at q.params m) e))) 0 c.args after1 in
       let count : length q.params ≡ length c.args =
       same-count (length q.params) (length c.args)
       (subst (λ o. is_another (option_map (λ (x : Proc Name). length x.params) o) (length c.args) ≡ false)
@@ -493,10 +520,10 @@ module _ (cats : List (Cat Name)) (own : Cat Name) (visible : List Local) (k : P
       (numbered-left (W.argument kind_at cats own visible q.params)
       (λ m e. type_at (Value own visible (W.kind_at q.params m) e)
       ++ (arguments_at (Value own visible (W.kind_at q.params m) e)
-      ++ count_at (Value own visible (W.kind_at q.params m) e))) 0 c.args behind1)
+      ++ count_at (Value own visible (W.kind_at q.params m) e))) 0 c.args after1)
       (numbered-left (W.argument type_at cats own visible q.params)
       (λ m e. (arguments_at (Value own visible (W.kind_at q.params m) e)
-      ++ count_at (Value own visible (W.kind_at q.params m) e))) 0 c.args behind2)
+      ++ count_at (Value own visible (W.kind_at q.params m) e))) 0 c.args after2)
       (numbered-left (W.argument number_at cats own visible q.params)
       (λ m e. unknown_at (Value own visible (W.kind_at q.params m) e)
       ++ (kind_at (Value own visible (W.kind_at q.params m) e)

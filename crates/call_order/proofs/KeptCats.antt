@@ -53,7 +53,8 @@ use Rattle.call_order.proofs.KeptExpressions.{none-left, none-right, passes-by, 
 use Rattle.call_order.proofs.KeptCalls.{all_at, Clean, clean_by, GivenKnown, At, at-number, get-map}
 use Rattle.call_order.proofs.KeptCalls.{cat_at_number, proc_number_is, method-named}
 use Rattle.call_order.proofs.KeptStatements.{not-limit, map-append, first-kind, locals-Let, locals-Assign}
-use Rattle.call_order.proofs.KeptStatements.{locals-Call, locals-If, locals-While, each, numbers_each}
+use Rattle.call_order.proofs.KeptStatements.{locals-Call, locals-If, locals-While}
+use Rattle.call_order.proofs.StatementLayers.{each, number-roll, numbers-each}
 use Rattle.call_order.proofs.KeptProcedures.{ProcedureKept, procedure_kept, fits_in_cat}
 
 -- lists
@@ -62,21 +63,25 @@ all-by Q [] all k d below = absurd (omega (arith, below))
 all-by Q (x ∷ xs) all zero d below = all.0
 all-by Q (x ∷ xs) all (suc k) d below = all-by Q xs all.1 k d (omega (arith, below))
 
+-- what holds of all items holds of each, one by one
 pub by-all : {X : Type 0} (Q : X → Type 0) (xs : List X) → All Q xs → AllByRecursion Q xs
 by-all Q [] all = tt
 by-all Q (x ∷ xs) all =
     (all 0 x (omega arith), by-all Q xs (λ k d below. all (suc k) d (omega (arith, below))))
 
+-- what holds of all mapped items holds of the mapped list
 pub all-map : {X Y : Type 0} (Q : Y → Type 0) (f : X → Y) (xs : List X) → AllByRecursion (λ x. Q (f x)) xs →
     AllByRecursion Q (map f xs)
 all-map Q f [] all = tt
 all-map Q f (x ∷ xs) all = (all.0, all-map Q f xs all.1)
 
+-- what holds of all items of two lists holds of both together
 all-append : {X : Type 0} (Q : X → Type 0) (xs ys : List X) → AllByRecursion Q xs → AllByRecursion Q ys →
     AllByRecursion Q (xs ++ ys)
 all-append Q [] ys hx hy = hy
 all-append Q (x ∷ xs) ys hx hy = (hx.0, all-append Q xs ys hx.1 hy)
 
+-- a mapped list is as long
 pub map-length : {X Y : Type 0} (f : X → Y) (xs : List X) → length (map f xs) ≡ length xs
 map-length f [] = refl
 map-length f (x ∷ xs) = ap suc (map-length f xs)
@@ -89,6 +94,7 @@ all-numbered f Q h n [] lines = tt
 all-numbered f Q h n (x ∷ xs) lines =
     (h n x (none-left (f n x) _ lines), all-numbered f Q h (n + 1) xs (none-right (f n x) _ lines))
 
+-- items none of which is at a limit are no more than the limit
 pub few-numbered : {X : Type 0} (f : ℕ → X → List ℕ) (limit : ℕ) →
     ((m : ℕ) (x : X) → f m x ≡ [] → m ≢ limit) → (n : ℕ) (xs : List X) → n ≤ limit →
     W.numbered f n xs ≡ [] → n + length xs ≤ limit
@@ -99,6 +105,7 @@ few-numbered f limit h n (x ∷ xs) low lines =
     (none-right (f n x) _ lines) in
     omega (arith, rest)
 
+-- what a walk without lines says of each item holds of all
 all-walked : {X : Type 0} (f : ℕ → X → Walk) (Q T : X → Type 0) →
     ((m : ℕ) (x : X) (s : Scope) → Q x → (f m x s).lines ≡ [] → T x) → (n : ℕ) (xs : List X) (s : Scope) →
     AllByRecursion Q xs → (W.walked f n xs s).lines ≡ [] → AllByRecursion T xs
@@ -109,6 +116,7 @@ all-walked f Q T h n (x ∷ xs) s all lines = (
       (none-right (f n x s).lines _ lines),
 )
 
+-- items of a walk none of which is at a limit are no more than the limit
 few-walked : {X : Type 0} (f : ℕ → X → Walk) (limit : ℕ) →
     ((m : ℕ) (x : X) (s : Scope) → (f m x s).lines ≡ [] → m ≢ limit) → (n : ℕ) (xs : List X) (s : Scope) →
     n ≤ limit →
@@ -124,11 +132,13 @@ few-walked f limit h n (x ∷ xs) s low lines =
 abbrev IsPlain : Kind → Type 0
 IsPlain kind = IsTrue (not (P.is_kind K.Seq kind))
 
+-- a kind of a local is no sequence
 small-plain : (kind : Kind) → IsSmall kind → IsPlain kind
 small-plain K.Int h = refl
 small-plain K.Bool h = refl
 small-plain K.Seq h = absurd h
 
+-- a start value has the kind of its variable
 start-kind : (v : Stored) (kind : Kind) → WF.HasKind v kind → P.kind_of v ≡ kind
 start-kind (V.Int z) kind h = sym h
 start-kind (V.Bool b) kind h = sym h
@@ -139,6 +149,7 @@ each_kinds : (ss : List (Statement Name)) → flat_map (λ ks. ks) (each let_kin
 each_kinds [] = refl
 each_kinds (s ∷ ss) = ap (λ ks. let_kinds s ++ ks) (each_kinds ss)
 
+-- the kinds of a statement's `let`s are told by its layer
 pub kinds-roll : (d : Statement-F Name (Statement Name)) →
     let_kinds (roll-Statement Name d) ≡ kinds_step
     (map-Statement Name (Statement Name) (List Kind) let_kinds d)
@@ -146,13 +157,16 @@ unfolding let_kinds
 kinds-roll d = fold-roll-Statement Name (List Kind) kinds_step d
 
 module _ (cats : List (Cat Name)) (own : Cat Name) where
+  -- the locals of a statement with numbers have the kinds of its `let`s
   abbrev LetClaim : Statement Name → Type 0
   LetClaim s = (sc : Scope) → map P.kind_of (locals_of (N.statement cats own s sc).part) ≡ let_kinds s
 
+  -- the locals of a body with numbers have the kinds of its `let`s
   abbrev LetsClaim : List (Statement Name) → Type 0
   LetsClaim ss = (sc : Scope) → map P.kind_of (flat_map locals_of (N.body cats own ss sc).part)
       ≡ flat_map let_kinds ss
 
+  -- statements whose locals have their kinds are such a body
   lets-claim : (ss : List (Statement Name)) → AllByRecursion LetClaim ss → LetsClaim ss
   lets-claim [] all sc = refl
   lets-claim (s ∷ ss) all sc =
@@ -161,14 +175,7 @@ module _ (cats : List (Cat Name)) (own : Cat Name) where
       (flat_map locals_of (N.body cats own ss (N.statement cats own s sc).scope).part)) (all.0 sc)
       ∙ ap (λ ks. let_kinds s ++ ks) (lets-claim ss all.1 (N.statement cats own s sc).scope))
 
-  number-roll : (d : Statement-F Name (Statement Name)) (sc : Scope) →
-      N.statement cats own (roll-Statement Name d) sc
-      ≡ N.statement_step cats own
-      (map-Statement Name (Statement Name) Numbering (N.statement cats own) d) sc
-  unfolding N.statement
-  number-roll d sc = ap (λ (m : Numbering). m sc)
-      (fold-roll-Statement Name Numbering (N.statement_step cats own) d)
-
+  -- a statement is such where its layer is
   by-layer : (d : Statement-F Name (Statement Name)) →
       ((sc : Scope) → map P.kind_of
       (locals_of (N.statement_step cats own
@@ -176,8 +183,9 @@ module _ (cats : List (Cat Name)) (own : Cat Name) where
       ≡ kinds_step (map-Statement Name (Statement Name) (List Kind) let_kinds d)) →
       LetClaim (roll-Statement Name d)
   by-layer d h sc = ap (λ (n : Numbered (Statement Ref)). map P.kind_of (locals_of n.part))
-      (number-roll d sc) ∙ (h sc ∙ sym (kinds-roll d))
+      (number-roll cats own d sc) ∙ (h sc ∙ sym (kinds-roll d))
 
+  -- the statements inside a statement, for which it holds already
   each-claims : (ys : List ((s : Statement Name) × LetClaim s)) →
       AllByRecursion LetClaim
       ((former-Statement-If-1 Name).map ((s : Statement Name) × LetClaim s) (Statement Name) (λ y. y.0)
@@ -185,6 +193,7 @@ module _ (cats : List (Cat Name)) (own : Cat Name) where
   each-claims [] = tt
   each-claims (y ∷ ys) = (y.1, each-claims ys)
 
+  -- a choice by its bodies
   if-lets : (cond : Expr Name) (holds fails : List (Statement Name)) → LetsClaim holds → LetsClaim fails →
       LetClaim (roll-Statement Name (S.If cond holds fails))
   if-lets cond holds fails h f = by-layer (S.If cond holds fails) (λ sc.
@@ -195,19 +204,21 @@ module _ (cats : List (Cat Name)) (own : Cat Name) where
       ∙ (map-append P.kind_of (flat_map locals_of first) (flat_map locals_of second)
       ∙ (ap (λ ks. ks ++ map P.kind_of (flat_map locals_of second))
       (ap (λ (n : Numbered (List (Statement Ref))). map P.kind_of (flat_map locals_of n.part))
-      (numbers_each cats own holds sc) ∙ (h sc ∙ sym (each_kinds holds)))
+      (numbers-each cats own holds sc) ∙ (h sc ∙ sym (each_kinds holds)))
       ∙ ap (λ ks. flat_map (λ ks. ks) (each let_kinds holds) ++ ks)
       (ap (λ (n : Numbered (List (Statement Ref))). map P.kind_of (flat_map locals_of n.part))
-      (numbers_each cats own fails inner) ∙ (f inner ∙ sym (each_kinds fails))))))
+      (numbers-each cats own fails inner) ∙ (f inner ∙ sym (each_kinds fails))))))
 
+  -- a loop by its body
   while-lets : (cond : Expr Name) (turn : List (Statement Name)) → LetsClaim turn →
       LetClaim (roll-Statement Name (S.While cond turn))
   while-lets cond turn h = by-layer (S.While cond turn) (λ sc.
       ap (map P.kind_of) (locals-While (N.expression own sc.visible cond)
       (N.in_turn (each (N.statement cats own) turn) sc).part)
       ∙ (ap (λ (n : Numbered (List (Statement Ref))). map P.kind_of (flat_map locals_of n.part))
-      (numbers_each cats own turn sc) ∙ (h sc ∙ sym (each_kinds turn))))
+      (numbers-each cats own turn sc) ∙ (h sc ∙ sym (each_kinds turn))))
 
+  -- a statement by those inside it
   layer-lets : (y : Statement-F Name ((s : Statement Name) × LetClaim s)) →
       LetClaim (roll-Statement Name
       (map-Statement Name ((s : Statement Name) × LetClaim s) (Statement Name) (λ y. y.0) y))
@@ -224,10 +235,12 @@ module _ (cats : List (Cat Name)) (own : Cat Name) where
       (lets-claim _ (each-claims fails))
   layer-lets (S.While cond turn) = while-lets cond _ (lets-claim _ (each-claims turn))
 
+  -- the locals of each statement have their kinds
   statement-lets : (s : Statement Name) → LetClaim s
   statement-lets = ind-Statement Name LetClaim
       (λ x y is. subst (λ d. LetClaim (roll-Statement Name d)) is (layer-lets y))
 
+  -- the locals of each body have their kinds
   body-lets : (ss : List (Statement Name)) → LetsClaim ss
   body-lets ss = lets-claim ss (every ss)
     where
@@ -239,19 +252,23 @@ module _ (cats : List (Cat Name)) (own : Cat Name) where
   abbrev ArePlain : List Stored → Type 0
   ArePlain vs = AllByRecursion IsPlain (map P.kind_of vs)
 
+  -- values that are no sequences, and more of them
   plain-append : (vs ws : List Stored) → ArePlain vs → ArePlain ws → ArePlain (vs ++ ws)
   plain-append vs ws h k = subst (AllByRecursion IsPlain) (sym (map-append P.kind_of vs ws))
       (all-append IsPlain (map P.kind_of vs) (map P.kind_of ws) h k)
 
+  -- kinds of locals are no sequences
   small-all : (ks : List Kind) → AllByRecursion IsSmall ks → AllByRecursion IsPlain ks
   small-all [] all = tt
   small-all (k ∷ ks) all = (small-plain k all.0, small-all ks all.1)
 
+  -- the locals of a body are no sequences
   body-plain : (ss : List (Statement Name)) (sc : Scope) → WF.HasSmallLocals ss →
       ArePlain (flat_map locals_of (N.body cats own ss sc).part)
   body-plain ss sc small = subst (AllByRecursion IsPlain) (sym (body-lets ss sc))
       (small-all (flat_map let_kinds ss) (by-all IsSmall (flat_map let_kinds ss) small))
 
+  -- the local of a preprocedure is no sequence
   pre-plain : (pre : Option (Pre Name)) (sc : Scope) → ArePlain (bound_local (N.early cats own pre sc).part)
   pre-plain None sc = tt
   pre-plain (Some pre) sc = by_bind pre.bind pre.call
@@ -261,6 +278,7 @@ module _ (cats : List (Cat Name)) (own : Cat Name) where
       by_bind None c = tt
       by_bind (Some name) c = (refl, tt)
 
+  -- the locals of alternatives are no sequences
   alternatives-plain : (alts : List (Alternative Name)) (sc : Scope) →
       AllByRecursion (λ (a : Alternative Name). WF.HasSmallLocals a.body) alts →
       ArePlain (flat_map (λ (a : Alternative Ref). bound_local a.pre ++ flat_map locals_of a.body)
@@ -273,6 +291,7 @@ module _ (cats : List (Cat Name)) (own : Cat Name) where
       (body-plain a.body (N.early cats own a.pre sc).scope all.0))
       (alternatives-plain alts (N.alternative cats own a sc).scope all.1)
 
+  -- the locals of a procedure are no sequences
   form-plain : (q : Proc Name) (f : Form Name) (sc : Scope) → HasWellFormed q f →
       ArePlain (form_locals (N.form cats own f sc))
   form-plain q (F.Total ss) sc h = body-plain ss sc h
@@ -281,10 +300,12 @@ module _ (cats : List (Cat Name)) (own : Cat Name) where
   form-plain q (F.Action alts) sc h = alternatives-plain alts sc
       (by-all (λ (a : Alternative Name). WF.HasSmallLocals a.body) alts h.0.bodies)
 
+  -- a result is no sequence
   result-plain : (g : Bool) → ArePlain (if g then V.Int (pos 0) ∷ [] else [])
   result-plain true = (refl, tt)
   result-plain false = tt
 
+  -- parameters are no sequences
   params-plain : (ps : List Param) → AllByRecursion (λ (x : Param). IsSmall x.kind) ps →
       AllByRecursion IsPlain (P.param_kinds ps)
   params-plain [] all = tt
@@ -330,6 +351,7 @@ module _ (cats : List (Cat Name)) (own : Cat Name) where
       by_form (F.Partial alts) s h = absurd (cc)
       by_form (F.Action alts) s h = absurd (cc)
 
+  -- a method with numbers is no action where the one with names is none
   method-where : (c : Cat Name) (q : Proc Name) → WK.is_action q.form ≡ false →
       not (P.is_action (N.procedure cats c q).form) ≡ true
   method-where c q h = by_form q.form (with_result q (N.with_params q.params (at_head q []))) h
@@ -370,10 +392,12 @@ module _ (cats : List (Cat Name)) (own : Cat Name) where
   hint-var (M.Slot slot kind is_param) fits known h = absurd (cc)
   hint-var M.Nothing fits known h = absurd (cc)
 
+  -- a depth that passes the check is at most 4
   low-depth : (depth line : ℕ) → fails (nat_lt 4 depth) line ≡ [] → depth ≤ 4
   low-depth depth line h = let e : nat_lt 4 depth ≡ false = passes-by (nat_lt 4 depth) line h in
       grind (arith, e)
 
+  -- a hint at which nothing is found is a checked one
   keeps-hint : (s : Semi Name) (n : ℕ) (h : Hint Name) → W.hint all_at cats own s n h ≡ [] →
       P.KeepsHint (N.cat cats own) (N.hint own h)
   keeps-hint s n h lines =
@@ -387,12 +411,13 @@ module _ (cats : List (Cat Name)) (own : Cat Name) where
         depth = low-depth h.depth h.line clean.count;
       }
 
+  -- a certificate at which nothing is found is a checked one
   keeps-semi : (n : ℕ) (s : Semi Name) → W.semi all_at cats own n s ≡ [] →
       P.KeepsSemi (N.cat cats own) (N.semi own s)
   keeps-semi n s lines =
       let first : Clean (First own n s) = clean_by (First own n s) (none-left _ _ lines) in
-      let behind1 = none-right (all_at (First own n s)) _ lines in
-      let second : Clean (Second own s.second) = clean_by (Second own s.second) (none-left _ _ behind1) in
+      let after1 = none-right (all_at (First own n s)) _ lines in
+      let second : Clean (Second own s.second) = clean_by (Second own s.second) (none-left _ _ after1) in
       record {
         first = semi-method WK.is_action (λ form. not (P.is_action form)) s.first (method-where own)
             (passes-by (is_nothing (meaning_in own s.first)) s.first.line first.unknown)
@@ -405,7 +430,7 @@ module _ (cats : List (Cat Name)) (own : Cat Name) where
         hints = all-by (P.KeepsHint (N.cat cats own)) (map (N.hint own) s.hints)
             (all-map (P.KeepsHint (N.cat cats own)) (N.hint own) s.hints
             (all-numbered (W.hint all_at cats own s) (λ h. P.KeepsHint (N.cat cats own) (N.hint own h))
-            (keeps-hint s) 0 s.hints (none-right (all_at (Second own s.second)) _ behind1)));
+            (keeps-hint s) 0 s.hints (none-right (all_at (Second own s.second)) _ after1)));
       }
 
   -- the cat of a given box
@@ -417,6 +442,7 @@ module _ (cats : List (Cat Name)) (own : Cat Name) where
       go None h = absurd (cc)
       go (Some c) h = (c, refl)
 
+  -- the cat of a given box at which nothing is found is known
   given-known : (n : ℕ) (g : Given Name) → W.given all_at cats own n g ≡ [] →
       (c : Cat Name) × (cat_named cats g.cat ≡ Some c)
   given-known n g lines =
@@ -424,12 +450,14 @@ module _ (cats : List (Cat Name)) (own : Cat Name) where
       (none-right (all_at (GivenName own n g.name)) _ lines) in
       known-cat g.cat (passes-by (is_none (cat_named cats g.cat)) g.cat.line clean.unknown)
 
+  -- what holds of all items holds of one of them
   all-get : {X : Type 0} (Q : X → Type 0) (xs : List X) (n : ℕ) (x : X) → AllByRecursion Q xs →
       slice_get xs n ≡ Some x → Q x
   all-get Q [] n x all h = absurd (cc)
   all-get Q (y ∷ ys) zero x all h = let e : y ≡ x = cc in subst Q e all.0
   all-get Q (y ∷ ys) (suc n) x all h = all-get Q ys n x all.1 h
 
+  -- a cat that is found is there
   is-there : (o : Option (Cat Ref)) (c : Cat Ref) → o ≡ Some c → IsTrue (P.is_there o)
   is-there o c h = ap P.is_there h
 
@@ -438,6 +466,7 @@ module _ (cats : List (Cat Name)) (own : Cat Name) where
   IsBeside q = (in_pres (lines_of cats own.given C.is_total) q.form ≡ [])
       × (in_bodies (lines_of cats own.given C.is_partial) q.form ≡ []) × IsWellFormedProcedure q
 
+  -- a number that passes a check of a limit, and of something else, isn't at the limit
   away : (a : ℕ) (b : Bool) (line limit : ℕ) → fails (a == limit || b) line ≡ [] → a ≢ limit
   away a b line limit h e =
       let f : (a == limit || b) ≡ false = passes-by (a == limit || b) line h in
@@ -447,6 +476,7 @@ module _ (cats : List (Cat Name)) (own : Cat Name) where
       go true s h k = absurd (cc)
       go false s h k = absurd (cc)
 
+  -- a cat at which nothing is found is a checked one
   pub keeps-cat : (number : ℕ) → AllByRecursion IsBeside own.procs → IsWellFormedCat own →
       W.cat all_at cats number own ≡ [] → P.KeepsCat (map (N.cat cats) cats) (N.cat cats own)
   keeps-cat number beside formed lines =

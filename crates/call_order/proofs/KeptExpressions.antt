@@ -39,10 +39,12 @@ pub none-left : (xs ys : List ℕ) → xs ++ ys ≡ [] → xs ≡ []
 none-left [] ys h = refl
 none-left (x ∷ xs) ys h = absurd (cc)
 
+-- where two lists together are empty, the second one is
 pub none-right : (xs ys : List ℕ) → xs ++ ys ≡ [] → ys ≡ []
 none-right [] ys h = h
 none-right (x ∷ xs) ys h = absurd (cc)
 
+-- a check without a line passes
 pub passes-by : (b : Bool) (line : ℕ) → fails b line ≡ [] → b ≡ false
 passes-by true line h = absurd (cc)
 passes-by false line h = refl
@@ -59,6 +61,7 @@ same-kind K.Seq K.Int h = absurd (cc)
 same-kind K.Seq K.Bool h = absurd (cc)
 same-kind K.Seq K.Seq h = refl
 
+-- a kind is itself
 pub is-kind-same : (k : Kind) → P.is_kind k k ≡ true
 is-kind-same K.Int = refl
 is-kind-same K.Bool = refl
@@ -73,6 +76,7 @@ of-kinds left right gives a b h k =
     ∙ (ap (λ x. P.is_kind left left && P.is_kind right x) (same-kind right b k)
     ∙ (ap (λ t. t && P.is_kind right right) (is-kind-same left) ∙ is-kind-same right)))
 
+-- two kinds that may be compared as equal give a bool
 equals : (a b : Kind) → T.is_seq (Some a) ≡ false → T.is_other a b ≡ false →
     (if P.is_kind a b && not (P.is_kind K.Seq a) then Some K.Bool else None) ≡ Some K.Bool
 equals K.Int K.Int h k = refl
@@ -83,6 +87,7 @@ equals K.Bool K.Bool h k = refl
 equals K.Bool K.Seq h k = absurd (cc)
 equals K.Seq b h k = absurd (cc)
 
+-- two kinds that an operator takes give its kind
 two-kind : (op : Op) (a b : Kind) → T.refuses op (Some a) ≡ false →
     T.differs (T.beside op (Some a)) (Some b) ≡ false → P.two_kind op a b ≡ Some (T.gives op)
 two-kind O.Or a b h k = of-kinds K.Bool K.Bool K.Bool a b h k
@@ -103,6 +108,7 @@ two-kind O.Remainder a b h k = of-kinds K.Int K.Int K.Int a b h k
 two-kind O.At a b h k = of-kinds K.Seq K.Int K.Int a b h k
 two-kind O.Add a b h k = of-kinds K.Seq K.Int K.Seq a b h k
 
+-- a function gives the same kind in both
 fun-kind : (fun : Fun) → P.fun_kind fun ≡ T.given_by fun
 fun-kind U.First = refl
 fun-kind U.Last = refl
@@ -123,6 +129,7 @@ Fits k (M.GivenBox n) = Unit {0}
 Fits k (M.Procedure n) = Unit {0}
 Fits k M.Nothing = Unit {0}
 
+-- what each name means at a place fits what the text sees with numbers
 pub record Agrees (own : Cat Name) (visible : List Local) (k : P.Scope) : Type 0 where
   pub at : (name : Name) → Fits k (meaning_of own visible name)
 
@@ -140,43 +147,52 @@ module _ (own : Cat Name) (visible : List Local) (k : P.Scope) (agrees : Agrees 
   names_of : (Name → List ℕ) → Node Name → List ℕ
   names_of at n = fold-Node Name (List ℕ) (List ℕ) (names_step at) (λ layer. layer.node) n
 
+  -- the type of a node with names
   typed_of : Node Name → T.Typed
   typed_of n = fold-Node Name T.Typed T.Part (T.node_step own visible)
       (λ layer. record { line = layer.line; typed = layer.node }) n
 
+  -- a node with numbers
   numbered_of : Node Name → Node Ref
   numbered_of n = fold-Node Name (Node Ref) (Expr Ref) (N.node_step own visible)
       (λ layer. record { line = layer.line; node = layer.node }) n
 
+  -- the kind of a node with numbers
   kind_of_node : Node Ref → Option Kind
   kind_of_node n = fold-Node Ref (Option Kind) (Option Kind) (P.node_kind k) (λ layer. layer.node) n
 
+  -- an expression has the names of its node
   names-expr : (at : Name → List ℕ) (e : Expr Name) → in_names at e ≡ names_of at e.node
   unfolding in_names names_of
   names-expr at e = fold_out-Expr Name (List ℕ) (List ℕ) (names_step at) (λ layer. layer.node) e
 
+  -- an expression has the type of its node
   typed-expr : (e : Expr Name) → (T.part own visible e).typed ≡ typed_of e.node
   unfolding T.part typed_of
   typed-expr e = ap (λ (p : T.Part). p.typed)
       (fold_out-Expr Name T.Typed T.Part (T.node_step own visible)
       (λ layer. record { line = layer.line; typed = layer.node }) e)
 
+  -- an expression with numbers is its node with numbers
   numbered-expr : (e : Expr Name) → (N.expression own visible e).node ≡ numbered_of e.node
   unfolding N.expression numbered_of
   numbered-expr e = ap (λ (x : Expr Ref). x.node)
       (fold_out-Expr Name (Node Ref) (Expr Ref) (N.node_step own visible)
       (λ layer. record { line = layer.line; node = layer.node }) e)
 
+  -- an expression has the kind of its node
   kind-expr : (e : Expr Ref) → P.kind_in k e ≡ kind_of_node e.node
   unfolding P.kind_in kind_of_node
   kind-expr e = fold_out-Expr Ref (Option Kind) (Option Kind) (P.node_kind k) (λ layer. layer.node) e
 
+  -- the names of a node are told by its layer
   names-roll : (at : Name → List ℕ) (d : Node-F Name (Node Name) (Expr Name)) →
       names_of at (roll-Node Name d) ≡ names_step at
       (map-Node Name (Node Name) (Expr Name) (List ℕ) (List ℕ) (names_of at) (in_names at) d)
   unfolding in_names names_of
   names-roll at d = fold-roll-Node Name (List ℕ) (List ℕ) (names_step at) (λ layer. layer.node) d
 
+  -- the type of a node is told by its layer
   typed-roll : (d : Node-F Name (Node Name) (Expr Name)) →
       typed_of (roll-Node Name d) ≡ T.node_step own visible
       (map-Node Name (Node Name) (Expr Name) T.Typed T.Part typed_of (T.part own visible) d)
@@ -184,6 +200,7 @@ module _ (own : Cat Name) (visible : List Local) (k : P.Scope) (agrees : Agrees 
   typed-roll d = fold-roll-Node Name T.Typed T.Part (T.node_step own visible)
       (λ layer. record { line = layer.line; typed = layer.node }) d
 
+  -- a node with numbers is told by its layer
   numbered-roll : (d : Node-F Name (Node Name) (Expr Name)) →
       numbered_of (roll-Node Name d) ≡ N.node_step own visible
       (map-Node Name (Node Name) (Expr Name) (Node Ref) (Expr Ref) numbered_of
@@ -192,6 +209,7 @@ module _ (own : Cat Name) (visible : List Local) (k : P.Scope) (agrees : Agrees 
   numbered-roll d = fold-roll-Node Name (Node Ref) (Expr Ref) (N.node_step own visible)
       (λ layer. record { line = layer.line; node = layer.node }) d
 
+  -- the kind of a node is told by its layer
   kind-roll : (d : Node-F Ref (Node Ref) (Expr Ref)) →
       kind_of_node (roll-Node Ref d) ≡ P.node_kind k
       (map-Node Ref (Node Ref) (Expr Ref) (Option Kind) (Option Kind) kind_of_node (P.kind_in k) d)
@@ -204,15 +222,18 @@ module _ (own : Cat Name) (visible : List Local) (k : P.Scope) (agrees : Agrees 
     typed : (typed_of n).kind ≡ Some kind
     numbered : kind_of_node (numbered_of n) ≡ Some kind
 
+  -- the type of an expression is the kind that it has with numbers
   pub record Known (e : Expr Name) : Type 0 where
     pub kind : Kind
     pub typed : (T.part own visible e).typed.kind ≡ Some kind
     pub numbered : P.kind_in k (N.expression own visible e) ≡ Some kind
 
+  -- a node without faults has the kind of its type
   NodeClaim : Node Name → Type 0
   NodeClaim n = names_of (unknown_name own visible) n ≡ [] → names_of (no_value own visible) n ≡ [] →
       (typed_of n).lines ≡ [] → numbers_of n ≡ true → KnownNode n
 
+  -- an expression without faults has the kind of its type
   abbrev pub Claim : Expr Name → Type 0
   Claim e = in_names (unknown_name own visible) e ≡ [] → in_names (no_value own visible) e ≡ [] →
       (T.part own visible e).typed.lines ≡ [] → has_numbers e ≡ true → Known e
@@ -291,6 +312,7 @@ module _ (own : Cat Name) (visible : List Local) (k : P.Scope) (agrees : Agrees 
       (kind ∙ (ap (λ o. P.where_of takes o gives) known
       ∙ ap (λ (t : Bool). if t then Some gives else None) (is-kind-same takes)))
 
+  -- two parts under an operator by the parts
   two-claim : (op : Op) (l r : Expr Name) → Claim l → Claim r → NodeClaim (roll-Node Name (L.Two op l r))
   unfolding NodeClaim
   two-claim op l r left right unknown novalue lines sized =
@@ -335,6 +357,7 @@ module _ (own : Cat Name) (visible : List Local) (k : P.Scope) (agrees : Agrees 
       ∙ (ap (λ x. option_and_then (P.two_kind op a.kind) x) b.numbered
       ∙ two-kind op a.kind b.kind refused differing))
 
+  -- a name
   name-claim : (name : Name) → NodeClaim (roll-Node Name (L.Name name))
   unfolding NodeClaim
   name-claim name unknown novalue lines sized =
@@ -347,6 +370,7 @@ module _ (own : Cat Name) (visible : List Local) (k : P.Scope) (agrees : Agrees 
       node-known d (L.Name (N.name_ref own visible name)) known.0
       (sym (rolls-Name (N.name_ref own visible name))) known.1 known.2
 
+  -- a node without parts
   leaf-claim : (d : Node-F Name (Node Name) (Expr Name)) (d' : Node-F Ref (Node Ref) (Expr Ref))
       (kind : Kind) →
       N.node_step own visible
@@ -393,6 +417,7 @@ module _ (own : Cat Name) (visible : List Local) (k : P.Scope) (agrees : Agrees 
       (sym (rolls-One fun (N.expression own visible e.0)))
       (ap (λ g. P.where_of K.Seq (P.kind_in k (N.expression own visible e.0)) g) (fun-kind fun))
 
+  -- an expression by its node
   expr-step : (y : Expr-F Name ((n : Node Name) × NodeClaim n) ((e : Expr Name) × Claim e)) →
       Claim (roll-Expr Name
       (map-Expr Name ((n : Node Name) × NodeClaim n) ((e : Expr Name) × Claim e) (Node Name) (Expr Name)

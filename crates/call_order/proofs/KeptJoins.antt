@@ -7,7 +7,7 @@ use Rattle.seuss_program.specs.declared.tree.Kind.TheVariants as K
 use Rattle.seuss_program.specs.declared.tree.Expr.{Expr}
 use Rattle.seuss_program.specs.declared.tree.Call.{Call}
 use Rattle.seuss_program.specs.declared.tree.Pre.{Pre}
-use Rattle.seuss_program.specs.declared.tree.Statement.{Statement, fold-roll-Statement, map-Statement}
+use Rattle.seuss_program.specs.declared.tree.Statement.{Statement, map-Statement}
 use Rattle.seuss_program.specs.declared.tree.Statement.{roll-Statement, ind-Statement}
 use Rattle.seuss_program.specs.declared.tree.Statement.TheOpen as S
 use Rattle.seuss_program.specs.declared.tree.Statement.TheOpen.{Statement-F}
@@ -28,17 +28,20 @@ use Rattle.box_types.specs.Walks.{Place, Test, Walked, Walk, Value, Assigned, Ta
 use Rattle.box_types.specs.Walks.{LocalName, When, ProcName, CatName, GivenName, GivenCat, VarName, First}
 use Rattle.box_types.specs.Walks.{Second, HintName, BoxName, BoxCat, BoxGiven}
 use Rattle.call_order.proofs.KeptExpressions.{none-left, none-right}
+use Rattle.call_order.proofs.StatementLayers.{each, walk-roll, walks-each}
 
 -- the third has no lines where the first two have none
 abbrev pub NoneToo : List ℕ → List ℕ → List ℕ → Type 0
 NoneToo a b c = a ≡ [] → b ≡ [] → c ≡ []
 
+-- what has no lines in two parts has none in both together
 too-append : (a a' b b' c c' : List ℕ) → NoneToo a b c → NoneToo a' b' c' →
     NoneToo (a ++ a') (b ++ b') (c ++ c')
 too-append a a' b b' c c' h h' ha hb =
     ap (λ l. l ++ c') (h (none-left a a' ha) (none-left b b' hb))
     ∙ h' (none-right a a' ha) (none-right b b' hb)
 
+-- no lines anywhere
 too-none : NoneToo [] [] []
 too-none ha hb = refl
 
@@ -48,10 +51,12 @@ record Joined (a b c : Walked) : Type 0 where
   third : c.scope ≡ a.scope
   lines : NoneToo a.lines b.lines c.lines
 
+-- walks that are the same as joined ones are joined
 joined-by : (a b c a' b' c' : Walked) → a ≡ a' → b ≡ b' → c ≡ c' → Joined a' b' c' → Joined a b c
 joined-by a b c a' b' c' ha hb hc j = subst (λ x. Joined x b c) (sym ha)
     (subst (λ x. Joined a' x c) (sym hb) (subst (λ x. Joined a' b' x) (sym hc) j))
 
+-- walks of lines alone are joined
 leaf : (a b c : List ℕ) (scope : Scope) → NoneToo a b c →
     Joined (record { lines = a; scope = scope }) (record { lines = b; scope = scope })
     (record { lines = c; scope = scope })
@@ -62,6 +67,7 @@ next-walk : Walked → Walk → Walked
 next-walk first rest = record
     { lines = first.lines ++ (rest first.scope).lines; scope = (rest first.scope).scope }
 
+-- joined walks, one after the other, are joined
 joined-next : (a b c : Walked) (f g h : Walk) → Joined a b c → ((s : Scope) → Joined (f s) (g s) (h s)) →
     Joined (next-walk a f) (next-walk b g) (next-walk c h)
 unfolding next-walk
@@ -76,11 +82,13 @@ joined-next a b c f g h j k =
           too-append a.lines _ b.lines _ c.lines _ j.lines r.lines;
     }
 
+-- joined walks are joined where their scopes are closed
 joined-closed : (s : Scope) (a b c : Walked) → Joined a b c →
     Joined (W.closed s a) (W.closed s b) (W.closed s c)
 joined-closed s a b c j = record
     { second = ap (behind s) j.second; third = ap (behind s) j.third; lines = j.lines }
 
+-- joined walks with lines before them are joined
 joined-lines : (l m n : List ℕ) (a b c : Walked) → NoneToo l m n → Joined a b c →
     Joined (record { lines = l ++ a.lines; scope = a.scope })
     (record { lines = m ++ b.lines; scope = b.scope })
@@ -98,6 +106,7 @@ joined-walked f g h j n [] s = leaf [] [] [] s too-none
 joined-walked f g h j n (x ∷ xs) s = joined-next (f n x s) (g n x s) (h n x s) (W.walked f (n + 1) xs)
     (W.walked g (n + 1) xs) (W.walked h (n + 1) xs) (j n x s) (joined-walked f g h j (n + 1) xs)
 
+-- what has no lines at each item has none at all of them
 too-numbered : {X : Type 0} (f g h : ℕ → X → List ℕ) → ((n : ℕ) (x : X) → NoneToo (f n x) (g n x) (h n x)) →
     (n : ℕ) (xs : List X) →
     NoneToo (W.numbered f n xs) (W.numbered g n xs) (W.numbered h n xs)
@@ -110,11 +119,13 @@ module _ (t u : Test) where
   abbrev pub both : Test
   both place = t place ++ u place
 
+  -- at a place the third test finds nothing where the first two don't
   at-place : (p : Place) → NoneToo (t p) (u p) (both p)
   at-place p ht hu = ap (λ l. l ++ u p) ht ∙ hu
 
   module _ (cats : List (Cat Name)) where
     module _ (own : Cat Name) where
+      -- the same at a call
       call-too : (visible : List Local) (c : Call Name) →
           NoneToo (W.call t cats own visible c) (W.call u cats own visible c)
           (W.call both cats own visible c)
@@ -129,6 +140,7 @@ module _ (t u : Test) where
           (λ n e. at-place (Value own visible (W.kind_at (W.params_of (method_called cats own visible c)) n)
           e)) 0 c.args))
 
+      -- the same at the name that takes a result
       taken-too : (visible : List Local) (bind : Option Name) (c : Call Name) →
           NoneToo (W.taken t cats own visible bind c) (W.taken u cats own visible bind c)
           (W.taken both cats own visible bind c)
@@ -139,14 +151,17 @@ module _ (t u : Test) where
           (at-place (Takes cats own visible (W.kind_of (meaning_of own visible name)) name c))
 
       module _ (number : ℕ) where
+        -- the walks of a statement are joined
         abbrev StatementJoins : Statement Name → Type 0
         StatementJoins s = (w : Scope) → Joined (W.statement t cats own number s w)
             (W.statement u cats own number s w) (W.statement both cats own number s w)
 
+        -- the walks of a body are joined
         abbrev BodyJoins : List (Statement Name) → Type 0
         BodyJoins ss = (w : Scope) → Joined (W.body t cats own number ss w) (W.body u cats own number ss w)
             (W.body both cats own number ss w)
 
+        -- a body by its statements
         body-joins : (ss : List (Statement Name)) → AllByRecursion StatementJoins ss → BodyJoins ss
         unfolding next-walk
         body-joins [] all w = leaf [] [] [] w too-none
@@ -155,25 +170,6 @@ module _ (t u : Test) where
             (W.statement both cats own number s w)
             (W.body t cats own number ss) (W.body u cats own number ss) (W.body both cats own number ss)
             (all.0 w) (body-joins ss all.1)
-
-        abbrev each : {A : Type 0} → (Statement Name → A) → List (Statement Name) → List A
-        each {A} f ss = (former-Statement-If-1 Name).map (Statement Name) A f ss
-
-        walk-roll : (test : Test) (d : Statement-F Name (Statement Name)) (w : Scope) →
-            W.statement test cats own number (roll-Statement Name d) w
-            ≡ W.statement_step test cats own number
-            (map-Statement Name (Statement Name) Walk (W.statement test cats own number) d) w
-        unfolding W.statement
-        walk-roll test d w = ap (λ (m : Walk). m w)
-            (fold-roll-Statement Name Walk (W.statement_step test cats own number) d)
-
-        walks-each : (test : Test) (ss : List (Statement Name)) (w : Scope) →
-            W.in_turn (each (W.statement test cats own number) ss) w ≡ W.body test cats own number ss w
-        walks-each test [] w = refl
-        walks-each test (s ∷ ss) w =
-            ap (λ (r : Walked). record
-            { lines = (W.statement test cats own number s w).lines ++ r.lines; scope = r.scope })
-            (walks-each test ss (W.statement test cats own number s w).scope)
 
         -- a layer of the three walks
         layer-joins : (d : Statement-F Name (Statement Name)) →
@@ -185,16 +181,20 @@ module _ (t u : Test) where
             (W.statement_step both cats own number
             (map-Statement Name (Statement Name) Walk (W.statement both cats own number) d) w)) →
             StatementJoins (roll-Statement Name d)
-        layer-joins d j w = joined-by _ _ _ _ _ _ (walk-roll t d w) (walk-roll u d w) (walk-roll both d w)
+        layer-joins d j w = joined-by _ _ _ _ _ _ (walk-roll t cats own number d w)
+            (walk-roll u cats own number d w) (walk-roll both cats own number d w)
             (j w)
 
+        -- statements inside a statement as a body
         turn-joins : (ss : List (Statement Name)) → BodyJoins ss → (w : Scope) →
             Joined (W.in_turn (each (W.statement t cats own number) ss) w)
             (W.in_turn (each (W.statement u cats own number) ss) w)
             (W.in_turn (each (W.statement both cats own number) ss) w)
-        turn-joins ss j w = joined-by _ _ _ _ _ _ (walks-each t ss w) (walks-each u ss w)
-            (walks-each both ss w) (j w)
+        turn-joins ss j w = joined-by _ _ _ _ _ _ (walks-each t cats own number ss w)
+            (walks-each u cats own number ss w)
+            (walks-each both cats own number ss w) (j w)
 
+        -- a choice by its bodies
         if-joins : (cond : Expr Name) (holds fails : List (Statement Name)) → BodyJoins holds →
             BodyJoins fails → StatementJoins (roll-Statement Name (S.If cond holds fails))
         unfolding next-walk
@@ -212,6 +212,7 @@ module _ (t u : Test) where
             (joined-closed w _ _ _ (turn-joins holds jh w))
             (λ s. joined-closed w _ _ _ (turn-joins fails jf s))))
 
+        -- a loop by its body
         while-joins : (cond : Expr Name) (turn : List (Statement Name)) → BodyJoins turn →
             StatementJoins (roll-Statement Name (S.While cond turn))
         while-joins cond turn jt = layer-joins (S.While cond turn) (λ w.
@@ -221,6 +222,7 @@ module _ (t u : Test) where
             (at-place (Value own w.visible (Some K.Bool) cond))
             (joined-closed w _ _ _ (turn-joins turn jt w)))
 
+        -- the statements inside a statement, for which it holds already
         each-joins : (ys : List ((s : Statement Name) × StatementJoins s)) →
             AllByRecursion StatementJoins
             ((former-Statement-If-1 Name).map ((s : Statement Name) × StatementJoins s) (Statement Name)
@@ -228,6 +230,7 @@ module _ (t u : Test) where
         each-joins [] = tt
         each-joins (y ∷ ys) = (y.1, each-joins ys)
 
+        -- a statement by those inside it
         step-joins : (y : Statement-F Name ((s : Statement Name) × StatementJoins s)) →
             StatementJoins (roll-Statement Name
             (map-Statement Name ((s : Statement Name) × StatementJoins s) (Statement Name) (λ y. y.0)
@@ -246,17 +249,21 @@ module _ (t u : Test) where
             (body-joins _ (each-joins fails))
         step-joins (S.While cond turn) = while-joins cond _ (body-joins _ (each-joins turn))
 
+        -- the walks of each statement are joined
         statement-joins : (s : Statement Name) → StatementJoins s
         statement-joins = ind-Statement Name StatementJoins
             (λ x y is. subst (λ d. StatementJoins (roll-Statement Name d)) is (step-joins y))
 
+        -- the walks of all statements of a body are joined
         every-joins : (ss : List (Statement Name)) → AllByRecursion StatementJoins ss
         every-joins [] = tt
         every-joins (s ∷ ss) = (statement-joins s, every-joins ss)
 
+        -- the walks of each body are joined
         bodies-join : (ss : List (Statement Name)) → BodyJoins ss
         bodies-join ss = body-joins ss (every-joins ss)
 
+        -- the walks of a call whose result is bound are joined
         bound-joins : (bind : Option Name) (c : Call Name) (w : Scope) →
             Joined (W.bound t cats own number bind c w) (W.bound u cats own number bind c w)
             (W.bound both cats own number bind c w)
@@ -269,12 +276,14 @@ module _ (t u : Test) where
             (at-place (Takes cats own w.visible (Some K.Int) name c))
             (call-too w.visible c)))
 
+        -- the walks of a preprocedure are joined
         early-joins : (pre : Option (Pre Name)) (w : Scope) →
             Joined (W.early t cats own number pre w) (W.early u cats own number pre w)
             (W.early both cats own number pre w)
         early-joins None w = leaf [] [] [] w too-none
         early-joins (Some pre) w = bound-joins pre.bind pre.call w
 
+        -- lines and two joined walks, one after the other, are joined
         three-joins : (l m n : List ℕ) (f g h f' g' h' : Walk) → NoneToo l m n →
             ((s : Scope) → Joined (f s) (g s) (h s)) → ((s : Scope) → Joined (f' s) (g' s) (h' s)) →
             (w : Scope) →
@@ -283,6 +292,7 @@ module _ (t u : Test) where
         three-joins l m n f g h f' g' h' too j j' w =
             joined-lines l m n _ _ _ too (joined-next (f w) (g w) (h w) f' g' h' (j w) j')
 
+        -- the walks of an alternative are joined
         alternative-joins : (n : ℕ) (a : Alternative Name) (w : Scope) →
             Joined (W.alternative t cats own number n a w) (W.alternative u cats own number n a w)
             (W.alternative both cats own number n a w)
@@ -297,6 +307,7 @@ module _ (t u : Test) where
             (at-place (Value own w.visible (Some K.Bool) a.cond)))
             (early-joins a.pre) (bodies-join a.body) w)
 
+        -- the walks of a text are joined
         form-joins : (f : Form Name) (w : Scope) →
             Joined (W.form t cats own number f w) (W.form u cats own number f w)
             (W.form both cats own number f w)
@@ -308,6 +319,7 @@ module _ (t u : Test) where
             (W.alternative u cats own number) (W.alternative both cats own number) alternative-joins 0 alts
             w
 
+        -- the walks of parameters and result are joined
         signature-joins : (q : Proc Name) (w : Scope) →
             Joined (W.signature t cats own number q w) (W.signature u cats own number q w)
             (W.signature both cats own number q w)
@@ -323,6 +335,7 @@ module _ (t u : Test) where
                   j.lines;
             }
 
+      -- the walks of a procedure are joined
       procedure-joins : (n : ℕ) (q : Proc Name) (w : Scope) →
           Joined (W.procedure t cats own n q w) (W.procedure u cats own n q w)
           (W.procedure both cats own n q w)
@@ -332,12 +345,14 @@ module _ (t u : Test) where
           (W.form t cats own n q.form) (W.form u cats own n q.form) (W.form both cats own n q.form)
           (at-place (ProcName own n q w.earlier)) (signature-joins n q) (form-joins n q.form) w
 
+      -- the same at all procedures of a cat
       procedures-too : NoneToo (W.procedures t cats own) (W.procedures u cats own)
           (W.procedures both cats own)
       procedures-too = (joined-walked (W.procedure t cats own) (W.procedure u cats own)
           (W.procedure both cats own) procedure-joins 0 own.procs
           (record { visible = []; next = 0; earlier = [] })).lines
 
+      -- the same at a certificate
       semi-too : (n : ℕ) (s : Semi Name) → NoneToo (W.semi t cats own n s) (W.semi u cats own n s)
           (W.semi both cats own n s)
       semi-too n s =
@@ -347,6 +362,7 @@ module _ (t u : Test) where
           (too-numbered (W.hint t cats own s) (W.hint u cats own s) (W.hint both cats own s)
           (λ m h. at-place (HintName own s m h)) 0 s.hints))
 
+    -- the same at a cat
     cat-too : (n : ℕ) (own : Cat Name) → NoneToo (W.cat t cats n own) (W.cat u cats n own)
         (W.cat both cats n own)
     cat-too n own =
@@ -365,6 +381,7 @@ module _ (t u : Test) where
         (too-numbered (W.semi t cats own) (W.semi u cats own) (W.semi both cats own) (semi-too own) 0
         own.semis))))
 
+    -- the same at a box
     box-too : (boxes : List BoxDecl) (n : ℕ) (b : BoxDecl) →
         NoneToo (W.box t cats boxes n b) (W.box u cats boxes n b) (W.box both cats boxes n b)
     box-too boxes n b =

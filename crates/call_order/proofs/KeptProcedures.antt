@@ -27,7 +27,7 @@ use Rattle.box_types.specs.declared.scopes.Scope.{Scope}
 use Rattle.box_types.specs.declared.scopes.Meaning.{Meaning}
 use Rattle.box_types.specs.declared.scopes.Meaning.TheVariants as M
 use Rattle.box_types.specs.Scopes as Sc
-use Rattle.box_types.specs.Scopes.{meaning_of, meaning_in, declared, behind, at_head, with_result}
+use Rattle.box_types.specs.Scopes.{meaning_of, meaning_in, declared, at_head, with_result}
 use Rattle.box_types.specs.Scopes.{result_local}
 use Rattle.box_types.specs.Walks as W
 use Rattle.box_types.specs.Walks.{Value, Takes, Walked, LocalName, When, ProcName}
@@ -47,12 +47,15 @@ use Rattle.call_order.proofs.KeptStatements.{not-found}
 
 module _ (cats : List (Cat Name)) (own : Cat Name) (number : ℕ) (k : P.Scope)
     (in_cat : (name : Name) → Fits k (meaning_in own name)) (sees_cat : SeesCat cats own k) where
+  -- a walk and a numbering that are ready for these kinds
   abbrev ReadyAt : Scope → Scope → List Kind → List Kind → Type 0
   ReadyAt = Ready cats own number k in_cat sees_cat
 
+  -- a walk and a numbering that are kept up to here
   abbrev KeptAt : Scope → Scope → Bool → List Kind → Type 0
   KeptAt = Kept cats own number k in_cat sees_cat
 
+  -- the lines of calls whose method is total
   abbrev at_total : Call Name → List ℕ
   at_total = lines_of cats own.given C.is_total
 
@@ -72,7 +75,7 @@ module _ (cats : List (Cat Name)) (own : Cat Name) (number : ℕ) (k : P.Scope)
         sees = all-append (LocalFits k) sc.visible
             (record { name = name; kind = kind; slot = sc.next; is_param = is_param }) ready.sees
             (drop-here k.slots sc.next kind rest ready.ahead, param);
-        behind = ap (λ n. drop n k.slots) plus ∙ drop-next k.slots sc.next kind rest ready.ahead;
+        after = ap (λ n. drop n k.slots) plus ∙ drop-next k.slots sc.next kind rest ready.ahead;
         low = low;
         few = (let most : sc.next ≤ 32 = ready.few in let not : w.next ≢ 32 =
             not-limit w.next 32 name.line clean.count in let same : w.next ≡ sc.next = ready.next in
@@ -92,7 +95,7 @@ module _ (cats : List (Cat Name)) (own : Cat Name) (number : ℕ) (k : P.Scope)
         visible = ready.visible;
         next = ready.next;
         sees = ready.sees;
-        behind =
+        after =
             ready.ahead;
         low = ready.low;
         few = ready.few;
@@ -117,7 +120,7 @@ module _ (cats : List (Cat Name)) (own : Cat Name) (number : ℕ) (k : P.Scope)
             visible = ready.visible;
             next = ready.next;
             sees = ready.sees;
-            behind = ready.ahead;
+            after = ready.ahead;
             low = ready.low;
             few = ready.few;
           }
@@ -153,6 +156,7 @@ module _ (cats : List (Cat Name)) (own : Cat Name) (number : ℕ) (k : P.Scope)
   abbrev alternative_locals : Alternative Ref → List Stored
   alternative_locals a = bound_local a.pre ++ flat_map locals_of a.body
 
+  -- an alternative at which nothing is found fits
   alternative-kept : (a : Alternative Name) (n : ℕ) (w sc : Scope) (rest : List Kind) →
       ReadyAt w sc (kinds_of cats own number k in_cat sees_cat
       (alternative_locals (N.alternative cats own a sc).part)) rest →
@@ -192,7 +196,7 @@ module _ (cats : List (Cat Name)) (own : Cat Name) (number : ℕ) (k : P.Scope)
         visible = first.visible;
         next = first.next;
         sees = first.sees;
-        ahead = first.behind;
+        ahead = first.after;
         low =
             first.low;
         few = first.few;
@@ -205,24 +209,26 @@ module _ (cats : List (Cat Name)) (own : Cat Name) (number : ℕ) (k : P.Scope)
         visible = ready.visible;
         next = second.next;
         sees = ready.sees;
-        behind = second.behind;
+        after = second.after;
         low = second.low;
         few = second.few;
       }
 
-  -- a text fits, and the slots that are left stand behind few
+  -- a text fits, and the slots that are left stand after few
   record FormKept (ok : Bool) (rest : List Kind) : Type 0 where
     fits : ok ≡ true
     end : ℕ
     few : end ≤ 32
-    behind : drop end k.slots ≡ rest
+    after : drop end k.slots ≡ rest
 
+  -- alternatives with numbers fit, and are few
   record AlternativesKept (alts : List (Alternative Name)) (n : ℕ) (alts' : List (Alternative Ref))
       (rest : List Kind) : Type 0 where
     form : FormKept (P.alternatives_fit k alts') rest
     few : n ≤ 16 → n + length alts ≤ 16
     count : length alts' ≡ length alts
 
+  -- alternatives at which nothing is found fit
   alternatives-kept : (alts : List (Alternative Name)) (n : ℕ) (w sc : Scope) (rest : List Kind) →
       ReadyAt w sc (kinds_of cats own number k in_cat sees_cat
       (flat_map alternative_locals (N.alternatives cats own alts sc))) rest →
@@ -232,7 +238,7 @@ module _ (cats : List (Cat Name)) (own : Cat Name) (number : ℕ) (k : P.Scope)
       alts ≡ [] → AlternativesKept alts n (N.alternatives cats own alts sc) rest
   alternatives-kept [] n w sc rest ready lines pres bodies =
       record {
-        form = record { fits = refl; end = sc.next; few = ready.few; behind = ready.ahead };
+        form = record { fits = refl; end = sc.next; few = ready.few; after = ready.ahead };
         few =
             (λ h. omega (arith, h));
         count = refl;
@@ -266,7 +272,7 @@ module _ (cats : List (Cat Name)) (own : Cat Name) (number : ℕ) (k : P.Scope)
         visible = one.visible;
         next = one.next;
         sees = one.sees;
-        ahead = one.behind;
+        ahead = one.after;
         low = one.low;
         few = one.few;
       })
@@ -282,16 +288,18 @@ module _ (cats : List (Cat Name)) (own : Cat Name) (number : ℕ) (k : P.Scope)
           fits = both-true cats own number k in_cat sees_cat _ _ one.fits more.form.fits;
           end = more.form.end;
           few = more.form.few;
-          behind = more.form.behind;
+          after = more.form.after;
         };
         few = (λ h. (let r : n + 1 + length alts ≤ 16 = more.few (omega (arith, h, away)) in
             omega (arith, r)));
         count = ap suc more.count;
       }
 
+  -- at most 16 is few
   few-true : (n : ℕ) → n ≤ 16 → nat_le n 16 ≡ true
   few-true n h = grind (arith, h)
 
+  -- a text at which nothing is found fits
   form-kept : (f : Form Name) (w sc : Scope) (rest : List Kind) →
       ReadyAt w sc (kinds_of cats own number k in_cat sees_cat (form_locals (N.form cats own f sc))) rest →
       (W.form all_at cats own number f w).lines ≡ [] → in_pres at_total f ≡ [] →
@@ -303,8 +311,8 @@ module _ (cats : List (Cat Name)) (own : Cat Name) (number : ℕ) (k : P.Scope)
         fits = kept.fits;
         end = (N.body cats own ss sc).scope.next;
         few = kept.few;
-        behind =
-            kept.behind;
+        after =
+            kept.after;
       }
   form-kept (F.Partial alts) w sc rest ready lines pres bodies =
       let kept : AlternativesKept alts 0 (N.alternatives cats own alts sc) rest =
@@ -318,7 +326,7 @@ module _ (cats : List (Cat Name)) (own : Cat Name) (number : ℕ) (k : P.Scope)
             (few-true (length (N.alternatives cats own alts sc)) few) kept.form.fits;
         end = kept.form.end;
         few = kept.form.few;
-        behind = kept.form.behind;
+        after = kept.form.after;
       }
   form-kept (F.Action alts) w sc rest ready lines pres bodies =
       let kept : AlternativesKept alts 0 (N.alternatives cats own alts sc) rest =
@@ -332,7 +340,7 @@ module _ (cats : List (Cat Name)) (own : Cat Name) (number : ℕ) (k : P.Scope)
             (few-true (length (N.alternatives cats own alts sc)) few) kept.form.fits;
         end = kept.form.end;
         few = kept.form.few;
-        behind = kept.form.behind;
+        after = kept.form.after;
       }
 
   -- at the parameters
@@ -343,10 +351,12 @@ module _ (cats : List (Cat Name)) (own : Cat Name) (number : ℕ) (k : P.Scope)
     ahead : drop sc.next k.slots ≡ kinds
     few : sc.next ≤ 32
 
+  -- the slots of the parameters are taken, and those of these kinds are left
   record ParamsKept (w sc : Scope) (kinds : List Kind) : Type 0 where
     begun : Begun w sc kinds
     all : sc.next ≡ k.params
 
+  -- parameters at which nothing is found take their slots
   params-kept : (n : ℕ) (ps : List Param) (w sc : Scope) (rest : List Kind) →
       Begun w sc (P.param_kinds ps ++ rest) → sc.next + length ps ≡ k.params →
       (W.walked (λ (m : ℕ). W.param all_at cats own number) n ps w).lines ≡ [] →
@@ -385,15 +395,18 @@ get-append [] (suc n) y zs h = absurd (omega (arith, h))
 get-append (x ∷ xs) zero y zs h = absurd (omega (arith, h))
 get-append (x ∷ xs) (suc n) y zs h = get-append xs n y zs (omega (arith, h))
 
-none-behind : {X : Type 0} (xs : List X) (n : ℕ) → drop n xs ≡ [] → length xs ≤ n
-none-behind [] n h = omega arith
-none-behind (x ∷ xs) zero h = absurd (cc)
-none-behind (x ∷ xs) (suc n) h = let r : length xs ≤ n = none-behind xs n h in omega (arith, r)
+-- where nothing is left after some items, there are no more than these
+none-after : {X : Type 0} (xs : List X) (n : ℕ) → drop n xs ≡ [] → length xs ≤ n
+none-after [] n h = omega arith
+none-after (x ∷ xs) zero h = absurd (cc)
+none-after (x ∷ xs) (suc n) h = let r : length xs ≤ n = none-after xs n h in omega (arith, r)
 
+-- there is a kind for each parameter
 kinds-length : (ps : List Param) → length (P.param_kinds ps) ≡ length ps
 kinds-length [] = refl
 kinds-length (p ∷ ps) = ap suc (kinds-length ps)
 
+-- nothing more changes nothing
 append-none : {X : Type 0} (xs : List X) → xs ++ [] ≡ xs
 append-none [] = refl
 append-none (x ∷ xs) = ap (λ l. x ∷ l) (append-none xs)
@@ -411,12 +424,14 @@ var-fits vars name (Some n) v at k same other fits =
     ∙ (get-map (λ (y : Var). y.kind) vars n ∙
     (ap (option_map (λ (y : Var). y.kind)) x.1 ∙ ap (λ o. Some (Sc.kind_in o)) (sym x.2)))
 
+-- a name that means a given box, a procedure or nothing fits
 given-fits : (k : P.Scope) (g q : Option ℕ) → Fits k
     (or_meaning M.Nothing (Sc.or_else (option_map M.GivenBox g) (option_map M.Procedure q)))
 given-fits k (Some n) q = tt
 given-fits k None (Some m) = tt
 given-fits k None None = tt
 
+-- what a name means in a cat fits
 pub fits_in_cat : (own : Cat Name) (k : P.Scope) → k.vars ≡ P.var_kinds own.vars → (name : Name) →
     Fits k (meaning_in own name)
 fits_in_cat own k same name = subst (Fits k) (sym (in-cat own name))
@@ -429,35 +444,41 @@ fits_in_cat own k same name = subst (Fits k) (sym (in-cat own name))
 
 module _ (cats : List (Cat Name)) (own : Cat Name) (number : ℕ) (q : Proc Name)
     (known : GivenKnown cats own) where
+  -- the procedure with numbers
   numbered : Proc Ref
   numbered = N.procedure cats own q
 
+  -- what its text sees
   scope : P.Scope
   scope = P.scope_of (map (N.cat cats) cats) (N.cat cats own) (N.procedure cats own q)
 
+  -- it sees the cat
   sees-cat : SeesCat cats own scope
   unfolding scope
   sees-cat = record { cats_are = refl; given_are = refl; known = known }
 
+  -- what a name means in the cat fits what the text sees
   in-own : (name : Name) → Fits scope (meaning_in own name)
   unfolding scope
   in-own name = fits_in_cat own
       (P.scope_of (map (N.cat cats) cats) (N.cat cats own) (N.procedure cats own q)) refl name
 
-  -- the kinds behind the parameters: the result and the locals
-  behind-params : List Kind
-  behind-params = map P.kind_of
+  -- the kinds after the parameters: the result and the locals
+  after-params : List Kind
+  after-params = map P.kind_of
       ((if q.gives then V.Int (pos 0) ∷ [] else []) ++ form_locals (N.procedure cats own q).form)
 
-  slots-are : scope.slots ≡ P.param_kinds q.params ++ behind-params
-  unfolding scope behind-params
+  -- its slots are the parameters, and then the others
+  slots-are : scope.slots ≡ P.param_kinds q.params ++ after-params
+  unfolding scope after-params
   slots-are = refl
 
+  -- after the first of two lists the second one is left
   drop-append : {X : Type 0} (xs ys : List X) → drop (length xs) (xs ++ ys) ≡ ys
   drop-append [] ys = refl
   drop-append (x ∷ xs) ys = drop-append xs ys
 
-  -- the result is a local behind the parameters
+  -- the result is a local after the parameters
   sees-result : (gives : Bool) → q.gives ≡ gives →
       Sees scope (if gives then record {
         name = record { text = codes "result"; line = 0 };
@@ -466,7 +487,7 @@ module _ (cats : List (Cat Name)) (own : Cat Name) (number : ℕ) (q : Proc Name
         is_param =
             false;
       } ∷ [] else [])
-  unfolding scope behind-params
+  unfolding scope after-params
   sees-result true is = (
     (
       ap (λ (t : Bool). slice_get
@@ -486,7 +507,7 @@ module _ (cats : List (Cat Name)) (own : Cat Name) (number : ℕ) (q : Proc Name
         (N.procedure cats own q).form ≡ true
     pub slots : length (P.slot_kinds (N.procedure cats own q)) ≤ 32
 
-  -- behind the result, where there is one, the locals begin
+  -- after the result, where there is one, the locals begin
   begin-form : (g : Bool) (w sc : Scope) (locals : List Kind) → w.visible ≡ sc.visible → w.next ≡ sc.next →
       Sees scope sc.visible → sc.next ≡ length q.params → sc.next ≤ 32 →
       (g && length q.params == 32) ≡ false → drop sc.next scope.slots ≡ (if g then K.Int ∷ [] else [])
@@ -516,19 +537,22 @@ module _ (cats : List (Cat Name)) (own : Cat Name) (number : ℕ) (q : Proc Name
     few = few;
   }
 
-  either-behind : (a b : Bool) → (a || b) ≡ false → b ≡ false
-  either-behind true b h = absurd (cc)
-  either-behind false b h = h
+  -- where neither of two tests holds, the second one doesn't
+  either-after : (a b : Bool) → (a || b) ≡ false → b ≡ false
+  either-after true b h = absurd (cc)
+  either-after false b h = h
 
+  -- the kinds of a result and of what follows
   result-kinds : (g : Bool) (vs : List Stored) → map P.kind_of
       ((if g then V.Int (pos 0) ∷ [] else []) ++ vs) ≡ (if g then K.Int ∷ [] else []) ++ map P.kind_of vs
   result-kinds true vs = refl
   result-kinds false vs = refl
 
+  -- a procedure at which nothing is found is a checked one
   pub procedure_kept : (before : Scope) → (W.procedure all_at cats own number q before).lines ≡ [] →
       in_pres (lines_of cats own.given C.is_total) q.form ≡ [] →
       in_bodies (lines_of cats own.given C.is_partial) q.form ≡ [] → ProcedureKept
-  unfolding scope behind-params
+  unfolding scope after-params
   procedure_kept before lines pres bodies =
       let head : Walked = W.walked (λ (m : ℕ). W.param all_at cats own number) 0 q.params
       (at_head q before.earlier) in
@@ -537,7 +561,7 @@ module _ (cats : List (Cat Name)) (own : Cat Name) (number : ℕ) (q : Proc Name
       clean_by (ProcName own number q before.earlier) (none-left _ _ lines) in
       let inside = none-right (all_at (ProcName own number q before.earlier)) _ lines in
       let at_params = params-kept cats own number scope in-own sees-cat 0 q.params
-      (at_head q before.earlier) (at_head q []) behind-params
+      (at_head q before.earlier) (at_head q []) after-params
       (record {
         visible = refl;
         next = refl;
@@ -547,7 +571,7 @@ module _ (cats : List (Cat Name)) (own : Cat Name) (number : ℕ) (q : Proc Name
             omega arith;
       }) (omega arith)
       (none-left head.lines _ inside) in
-      let limit : result_passes q ≡ false = either-behind (number == 64) (result_passes q)
+      let limit : result_passes q ≡ false = either-after (number == 64) (result_passes q)
       (passes-by (number == 64 || result_passes q) q.name.line clean.count) in
       let locals : List Kind = map P.kind_of (form_locals (N.procedure cats own q).form) in
       let ready : Ready cats own number scope in-own sees-cat (with_result q head.scope) (with_result q sc)
@@ -560,6 +584,6 @@ module _ (cats : List (Cat Name)) (own : Cat Name) (number : ℕ) (q : Proc Name
       record {
         text = kept.fits;
         slots = (let most : length (P.slot_kinds (N.procedure cats own q)) ≤ kept.end =
-            none-behind (P.slot_kinds (N.procedure cats own q)) kept.end kept.behind in
+            none-after (P.slot_kinds (N.procedure cats own q)) kept.end kept.after in
             let few : kept.end ≤ 32 = kept.few in omega (arith, most, few));
       }

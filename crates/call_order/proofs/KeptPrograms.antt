@@ -67,9 +67,12 @@ use Rattle.call_order.specs.Calls.{lines_of, in_procedures, in_pres, in_bodies, 
 use Rattle.call_order.specs.Calls.{total_calls}
 use Rattle.box_types.specs.Namings.{named}
 use Rattle.call_order.specs.Cycles.{given_of}
-use Rattle.call_order.specs.Answers.{program_of, Orders}
+use Rattle.call_order.specs.Answers.{IsOrdered, Orders}
 use Rattle.call_order.specs.declared.refusal.OrderRefusal.{OrderRefusal}
-use Rattle.call_order.specs.Levels.{set_levels, leveled_at, levels_after, level_above}
+use Rattle.call_order.specs.LevelLists.{set_levels, levelled_at, level_above}
+use Rattle.call_order.proofs.CheckedLemmas.{checked_is_ordered}
+use Rattle.call_order.proofs.LevelRounds.{levels_after, program_of}
+use Rattle.call_order.proofs.OneLevelling.{one_levelling}
 use Rattle.call_order.proofs.CallLemmas.{lines-Assign}
 use Rattle.call_order.proofs.LevelLemmas.{set-length}
 use Rattle.call_order.proofs.NumberLemmas.{numbers-by, statement-roll}
@@ -100,10 +103,12 @@ among-same box n (q ∷ qs) = by_form q.form (among-same box (n + 1) qs)
     by_form (F.Partial alts) h = h
     by_form (F.Action alts) h = ap (λ xs. record { box_number = box; procedure = n } ∷ xs) h
 
+-- the procedures of a cat are the same in both definitions
 inside-same : (c : Option (Cat Ref)) → Re.procedures_in c ≡ P.procedures_in c
 inside-same None = refl
 inside-same (Some c) = refl
 
+-- the actions of boxes are the same in both definitions
 pub actions_same : (cats : List (Cat Ref)) (n : ℕ) (bs : List BoxInfo) →
     Re.actions_of cats n bs ≡ P.actions_of cats n bs
 actions_same cats n [] = refl
@@ -125,13 +130,14 @@ actions_levelled cats n (b ∷ bs) (m ∷ ms) h =
 
 -- a box with its level
 levelled-get : (bs : List BoxInfo) (ns : List ℕ) (k : ℕ) (b : BoxInfo) → length ns ≡ length bs →
-    slice_get bs k ≡ Some b → (n : ℕ) × (slice_get (set_levels bs ns) k ≡ Some (leveled_at b n))
+    slice_get bs k ≡ Some b → (n : ℕ) × (slice_get (set_levels bs ns) k ≡ Some (levelled_at b n))
 levelled-get [] ns k b h e = absurd (cc)
 levelled-get (x ∷ xs) [] k b h e = absurd (omega (arith, h))
 levelled-get (x ∷ xs) (n ∷ ns) zero b h e = let same : x ≡ b = cc in
-    (n, ap (λ y. Some (leveled_at y n)) same)
+    (n, ap (λ y. Some (levelled_at y n)) same)
 levelled-get (x ∷ xs) (n ∷ ns) (suc k) b h e = levelled-get xs ns k b (omega (arith, h)) e
 
+-- two lists together are as long as both
 length-append : {X : Type 0} (xs ys : List X) → length (xs ++ ys) ≡ length xs + length ys
 length-append [] ys = omega arith
 length-append (x ∷ xs) ys = let r : length (xs ++ ys) ≡ length xs + length ys = length-append xs ys in
@@ -148,6 +154,7 @@ module _ (cats : List (Cat Name)) where
       by_form (F.Partial alts) s = refl
       by_form (F.Action alts) s = refl
 
+  -- there are as many actions with numbers as with names in a cat
   among-count : (own : Cat Name) (box n : ℕ) (qs : List (Proc Name)) →
       length (P.actions_among box n (map (N.procedure cats own) qs))
       ≡ count_by (λ (q : Proc Name). WK.is_action q.form) qs
@@ -169,6 +176,7 @@ module _ (cats : List (Cat Name)) where
       go false true e h = absurd (cc)
       go false false e h = omega (arith, h)
 
+  -- there are as many actions in the cat of a box
   cat-count : (name : Name) (c : Cat Name) (box : ℕ) → cat_named cats name ≡ Some c →
       length (P.actions_among box 0
       (P.procedures_in (slice_get (map (N.cat cats) cats) (N.cat_number cats name))))
@@ -179,10 +187,12 @@ module _ (cats : List (Cat Name)) where
 
   -- a box whose places pass
   module _ (boxes : List BoxDecl) where
+    -- the cat of a declared box is known
     record BoxClean (d : BoxDecl) : Type 0 where
       cat : Cat Name
       named : cat_named cats d.cat ≡ Some cat
 
+    -- a cat that isn't missing is known
     known-cat : (name : Name) → is_none (cat_named cats name) ≡ false →
         (c : Cat Name) × (cat_named cats name ≡ Some c)
     known-cat name h = go (cat_named cats name) h
@@ -191,6 +201,7 @@ module _ (cats : List (Cat Name)) where
         go None h = absurd (cc)
         go (Some c) h = (c, refl)
 
+    -- a box at which nothing is found is clean
     box-cat : (n : ℕ) (d : BoxDecl) → W.box all_at cats boxes n d ≡ [] → BoxClean d
     box-cat n d lines =
         let clean : Clean (BoxCat cats d) = clean_by (BoxCat cats d)
@@ -203,6 +214,7 @@ module _ (cats : List (Cat Name)) where
     take-front [] ys = refl
     take-front (x ∷ xs) ys = ap (λ l. x ∷ l) (take-front xs ys)
 
+    -- one more box adds the actions of its cat
     actions-push : (before : List BoxDecl) (b : BoxDecl) →
         Li.actions_of cats (before ++ b ∷ []) ≡ Li.actions_of cats before + Li.actions_in
         (cat_named cats b.cat)
@@ -212,10 +224,12 @@ module _ (cats : List (Cat Name)) where
         ≡ Li.actions_of cats xs + Li.actions_in (cat_named cats b.cat) = actions-push xs b in
         omega (arith, r)
 
+    -- where neither of two tests holds, the right one doesn't
     either-right : (a b : Bool) → (a || b) ≡ false → b ≡ false
     either-right true b h = absurd (cc)
     either-right false b h = h
 
+    -- a sum that doesn't pass 256 is at most 256
     not-past : (a b : ℕ) → a ≤ 256 → (nat_lt a 257 && nat_lt 256 (a + b)) ≡ false → a + b ≤ 256
     not-past a b low h = go (nat_lt a 257) (nat_lt 256 (a + b)) refl refl h
       where
@@ -224,10 +238,12 @@ module _ (cats : List (Cat Name)) where
         go true false hs ht e = grind (arith, ht)
         go false t hs ht e = absurd (grind (arith, hs, low))
 
+    -- an item after a list, and then another list
     push-append : {X : Type 0} (xs : List X) (y : X) (ys : List X) → (xs ++ y ∷ []) ++ ys ≡ xs ++ y ∷ ys
     push-append [] y ys = refl
     push-append (x ∷ xs) y ys = ap (λ l. x ∷ l) (push-append xs y ys)
 
+    -- boxes at which nothing is found have at most 256 actions
     pub few-actions : (before bs : List BoxDecl) (n k : ℕ) → boxes ≡ before ++ bs → n ≡ length before →
         Li.actions_of cats before ≤ 256 →
         W.numbered (W.box all_at cats boxes) n bs ≡ [] →
@@ -278,10 +294,12 @@ module _ (cats : List (Cat Name)) where
         go true s f h r = (x, refl)
         go false s f h r = r h
 
+    -- a test whose opposite fails holds
     not-true : (b : Bool) → not b ≡ false → b ≡ true
     not-true true h = refl
     not-true false h = absurd (cc)
 
+    -- names of the same text are of the same cat
     number-same : (a b : Name) → a.text ≡ b.text → N.cat_number cats a ≡ N.cat_number cats b
     number-same a b h = ap
         (λ t. unwrap_or (position_from (λ (c : Cat Name). bytes_eq c.name.text t) 0 cats) 0) h
@@ -326,6 +344,7 @@ module _ (cats : List (Cat Name)) where
         some-same : {x y : BoxDecl} → Some x ≡ Some y → x ≡ y
         some-same e = cc
 
+    -- given boxes at which nothing is found are of the declared cats
     givens-fit : (d : BoxDecl) (c : Cat Name) (gs : List (Given Name)) (names : List Name) (n : ℕ)
         (ns : List ℕ) → cat_named cats d.cat ≡ Some c →
         ((i : ℕ) → slice_get c.given (n + i) ≡ slice_get gs i) → length gs ≡ length names →
@@ -349,6 +368,7 @@ module _ (cats : List (Cat Name)) where
         ap (λ t. t && P.given_fit (set_levels (map (N.box_info cats boxes) boxes) ns)
         (map (N.box_number boxes) names) (map (N.given cats) gs)) one ∙ rest
 
+    -- numbers that don't differ are the same
     same-count : (a b : ℕ) → not (a == b) ≡ false → a ≡ b
     same-count a b h = let e : (a == b) ≡ true = not-true (a == b) h in grind (arith, e)
 
@@ -358,13 +378,14 @@ module _ (cats : List (Cat Name)) where
       pub there : slice_get (map (N.cat cats) cats) b.cat ≡ Some cat
       pub given : P.given_fit (set_levels (map (N.box_info cats boxes) boxes) ns) b.given cat.given ≡ true
 
+    -- a box at which nothing is found is kept
     box-kept : (n level : ℕ) (d : BoxDecl) (ns : List ℕ) →
         length ns ≡ length (map (N.box_info cats boxes) boxes) → W.box all_at cats boxes n d ≡ [] →
-        BoxKept ns (leveled_at (N.box_info cats boxes d) level)
+        BoxKept ns (levelled_at (N.box_info cats boxes d) level)
     box-kept n level d ns long lines =
         let named : BoxClean d = box-cat n d lines in
-        let behind1 = none-right (all_at (BoxName cats boxes n d)) _ lines in
-        let clean : Clean (BoxCat cats d) = clean_by (BoxCat cats d) (none-left _ _ behind1) in
+        let after1 = none-right (all_at (BoxName cats boxes n d)) _ lines in
+        let clean : Clean (BoxCat cats d) = clean_by (BoxCat cats d) (none-left _ _ after1) in
         let count : length (named.cat).given ≡ length d.given =
         same-count (length (named.cat).given) (length d.given)
         (subst (λ o. is_another (option_map (λ (x : Cat Name). length x.given) o) (length d.given) ≡ false)
@@ -376,9 +397,10 @@ module _ (cats : List (Cat Name)) where
           there = cat_at_number cats d.cat named.cat named.named;
           given = givens-fit d named.cat (named.cat).given d.given 0 ns named.named
               (λ i. (let e : 0 + i ≡ i = omega arith in ap (slice_get (named.cat).given) e)) count long
-              (none-right (all_at (BoxCat cats d)) _ behind1);
+              (none-right (all_at (BoxCat cats d)) _ after1);
         }
 
+    -- boxes at which nothing is found are kept
     pub boxes-kept : (n : ℕ) (ds : List BoxDecl) (ms ns : List ℕ) →
         length ns ≡ length (map (N.box_info cats boxes) boxes) → length ms ≡ length ds →
         W.numbered (W.box all_at cats boxes) n ds ≡ [] →
@@ -397,11 +419,13 @@ flat-none : {X : Type 0} (f : X → List ℕ) (xs : List X) → flat_map f xs �
 flat-none f [] h = tt
 flat-none f (x ∷ xs) h = (none-left (f x) _ h, flat-none f xs (none-right (f x) _ h))
 
+-- what follows from three facts holds of all items of which these hold
 all-three : {X : Type 0} (Q S T U : X → Type 0) → ((x : X) → Q x → S x → T x → U x) → (xs : List X) →
     AllByRecursion Q xs → AllByRecursion S xs → AllByRecursion T xs → AllByRecursion U xs
 all-three Q S T U h [] q s t = tt
 all-three Q S T U h (x ∷ xs) q s t = (h x q.0 s.0 t.0, all-three Q S T U h xs q.1 s.1 t.1)
 
+-- what follows from a fact and an empty search holds of all items
 all-numbered-with : {X : Type 0} (f : ℕ → X → List ℕ) (Q S : X → Type 0) →
     ((m : ℕ) (x : X) → Q x → f m x ≡ [] → S x) → (n : ℕ) (xs : List X) → AllByRecursion Q xs →
     W.numbered f n xs ≡ [] → AllByRecursion S xs
@@ -416,6 +440,7 @@ all-numbered-with f Q S h n (x ∷ xs) all lines = (
 abbrev IsSound : List (Cat Name) → Cat Name → Type 0
 IsSound cats own = AllByRecursion (IsBeside cats own) own.procs × IsWellFormedCat own
 
+-- a well formed cat whose calls are right is sound
 sound-cat : (cats : List (Cat Name)) (own : Cat Name) →
     in_procedures in_pres (lines_of cats own.given C.is_total) own.procs ≡ [] →
     in_procedures in_bodies (lines_of cats own.given C.is_partial) own.procs ≡ [] → IsWellFormedCat own →
@@ -432,6 +457,7 @@ sound-cat cats own pres bodies formed = (
   formed,
 )
 
+-- what holds of an item holds of the list of it
 single : {X : Type 0} (Q : X → Type 0) (x : X) → Q x → All Q (x ∷ [])
 single Q x q = all-by Q (x ∷ []) (q, tt)
 
@@ -439,9 +465,11 @@ single Q x q = all-by Q (x ∷ []) (q, tt)
 no-locals : (name : Name) (e : Expr Name) → let_kinds (SV.Assign name e) ≡ []
 no-locals name e = ap let_kinds (sym (rolls-Assign name e)) ∙ kinds-roll (S.Assign name e)
 
+-- no kinds are those of locals
 none-small : (ks : List Kind) → ks ≡ [] → All IsSmall ks
 none-small ks h = subst (All IsSmall) (sym h) (all-by IsSmall [] tt)
 
+-- reading has no `let`
 read-lets : flat_map let_kinds
     (assignment (codes "result") (of_queue U.First) ∷ assignment (codes "q") (of_queue U.Rest) ∷ []) ≡ []
 read-lets = ap (λ l. l ++ (let_kinds (assignment (codes "q") (of_queue U.Rest)) ++ []))
@@ -467,6 +495,7 @@ assignment-sized : (text : List ℕ) (e : Expr Name) → has_numbers e ≡ true 
 assignment-sized text e h = ap statement_numbers (sym (rolls-Assign (word text) e))
     ∙ (statement-roll (S.Assign (word text) e) ∙ h)
 
+-- reading is well formed
 read-formed : IsWellFormedProcedure read
 read-formed = record {
   params = all-by (λ (x : Param). IsSmall x.kind) [] tt;
@@ -481,6 +510,7 @@ read-formed = record {
       (both_true (assignment-sized (codes "q") (of_queue U.Rest) (queue-sized U.Rest)) refl))) refl;
 }
 
+-- writing is well formed
 write-formed : IsWellFormedProcedure write
 write-formed = record {
   params = single (λ (x : Param). IsSmall x.kind) _ tt;
@@ -491,6 +521,7 @@ write-formed = record {
       (use-sized (codes "x")))) refl;
 }
 
+-- the queue of a built-in cat begins with a sequence
 queue-formed : All (λ (v : Var). WF.HasKind v.start v.kind) queue
 queue-formed = single (λ (v : Var). WF.HasKind v.start v.kind) _ refl
 
@@ -519,6 +550,7 @@ built-ins-formed : (tree : Tree) → IsWellFormed tree → IsWellFormed (with_bu
 built-ins-formed tree formed = all-by IsWellFormedCat (with_built_ins tree).cats
     (input-formed, (output-formed, by-all IsWellFormedCat tree.cats formed))
 
+-- the cat of the input is sound
 input-sound : (cats : List (Cat Name)) → IsSound cats input
 input-sound cats = sound-cat cats input refl
     (ap (λ l. ((l ++ (in_statement (lines_of cats [] C.is_partial)
@@ -528,6 +560,7 @@ input-sound cats = sound-cat cats input refl
     (lines-Assign (lines_of cats [] C.is_partial) _ _ (of_queue U.Rest) refl))
     input-formed
 
+-- the cat of the output is sound
 output-sound : (cats : List (Cat Name)) → IsSound cats output
 output-sound cats = sound-cat cats output refl
     (ap (λ l. (l ++ []) ++ [])
@@ -546,6 +579,7 @@ all-found tree formed a =
     (found_join type_at (λ x. arguments_at x ++ count_at x) (with_built_ins tree) a.wrong_type
     (found_join arguments_at count_at (with_built_ins tree) a.arguments a.count))))
 
+-- all cats of a text are sound
 sound-cats : (tree : Tree) → IsWellFormed tree → partial_calls tree ≡ [] → total_calls tree ≡ [] →
     AllByRecursion (IsSound (with_built_ins tree).cats) (with_built_ins tree).cats
 sound-cats tree formed partials totals =
@@ -564,6 +598,7 @@ sound-cats tree formed partials totals =
       ),
     )
 
+-- a number that passes a check of a limit, and of something else, isn't at the limit
 away : (a : ℕ) (b : Bool) (line limit : ℕ) → fails (a == limit || b) line ≡ [] → a ≢ limit
 away a b line limit h e =
     let f : (a == limit || b) ≡ false = passes-by (a == limit || b) line h in
@@ -573,6 +608,7 @@ away a b line limit h e =
     go true s h k = absurd (cc)
     go false s h k = absurd (cc)
 
+-- after some rounds there is a level for each box
 levels-count : (boxes : List BoxInfo) (r m : ℕ) → m ≡ r + 1 → length (levels_after boxes m) ≡ length boxes
 levels-count boxes r m h =
     (let e : m ≡ suc r = omega (arith, h) in ap (λ k. length (levels_after boxes k)) e)
@@ -591,6 +627,7 @@ box-keeps p (b ∷ bs) kept levels = (
       levels.1,
 )
 
+-- what follows from a fact holds of all items of which the fact holds
 all-same : {X : Type 0} (Q S : X → Type 0) → ((x : X) → Q x → S x) → (xs : List X) → AllByRecursion Q xs →
     AllByRecursion S xs
 all-same Q S h [] all = tt
@@ -671,10 +708,10 @@ few_boxes_by tree accepted =
 pub answer_keeps : (r : Result Program OrderRefusal) (tree : Tree) → IsWellFormed tree → IsAccepted tree →
     Orders r tree → IfOk r P.Keeps
 answer_keeps (Ok p) tree formed accepted ordered =
-    subst P.Keeps (sym ordered.program)
-    (keeps_by tree formed accepted ordered.partial_calls ordered.total_calls
-    (subst (λ (x : Program). All (λ (b : BoxInfo). b.level ≡ P.above (map (level_of x) b.given)) x.boxes)
-    ordered.program ordered.levels.levels))
+    let same : IsOrdered (program_of tree) tree =
+    checked_is_ordered tree ordered.partial_calls ordered.total_calls ordered.cycles in
+    subst P.Keeps (one_levelling (named tree) (program_of tree) p same.levels ordered.levels)
+    (keeps_by tree formed accepted ordered.partial_calls ordered.total_calls same.levels.levels)
 answer_keeps (Err refusal) tree formed accepted ordered = tt
 
 -- and has few actions

@@ -46,6 +46,7 @@ use Rattle.call_order.proofs.KeptExpressions.{has_kind, part-known}
 use Rattle.call_order.proofs.KeptCalls.{all_at, Clean, clean_by, SeesCat, Named, kept_call, call_fits}
 use Rattle.call_order.proofs.KeptCalls.{set_kind, takes_result, or_meaning, in-text}
 use Rattle.call_order.proofs.NumberPlaces.{sized-by}
+use Rattle.call_order.proofs.StatementLayers.{each, walk-roll, walks-each, number-roll, numbers-each}
 
 -- a place that doesn't pass a limit isn't at it
 pub not-limit : (n limit line : ℕ) → fails (n == limit) line ≡ [] → n ≢ limit
@@ -60,6 +61,7 @@ drop-here [] (suc n) x rest h = absurd (cc)
 drop-here (y ∷ ys) zero x rest h = let e : y ≡ x = cc in ap (λ z. Some z) e
 drop-here (y ∷ ys) (suc n) x rest h = drop-here ys n x rest h
 
+-- what is left after one more item
 pub drop-next : {X : Type 0} (xs : List X) (n : ℕ) (x : X) (rest : List X) → drop n xs ≡ x ∷ rest →
     drop (suc n) xs ≡ rest
 drop-next [] zero x rest h = absurd (cc)
@@ -67,14 +69,17 @@ drop-next [] (suc n) x rest h = absurd (cc)
 drop-next (y ∷ ys) zero x rest h = cc
 drop-next (y ∷ ys) (suc n) x rest h = drop-next ys n x rest h
 
+-- two lists together, mapped
 pub map-append : {X Y : Type 0} (f : X → Y) (xs ys : List X) → map f (xs ++ ys) ≡ map f xs ++ map f ys
 map-append f [] ys = refl
 map-append f (x ∷ xs) ys = ap (λ l. f x ∷ l) (map-append f xs ys)
 
+-- three lists together
 pub append-assoc : {X : Type 0} (xs ys zs : List X) → (xs ++ ys) ++ zs ≡ xs ++ (ys ++ zs)
 append-assoc [] ys zs = refl
 append-assoc (x ∷ xs) ys zs = ap (λ l. x ∷ l) (append-assoc xs ys zs)
 
+-- what holds of all items holds of the one that is found
 find-all : {X : Type 0} (Q : X → Type 0) (test : X → Bool) (xs : List X) (x : X) → AllByRecursion Q xs →
     find test xs ≡ Some x → Q x
 find-all Q test [] x all h = absurd (cc)
@@ -84,40 +89,31 @@ find-all {X} Q test (y ∷ ys) x all h = go (test y) (find test ys) h (find-all 
     go true o h rest = let e : y ≡ x = cc in subst Q e all.0
     go false o h rest = rest h
 
+-- what holds of all items and of one more holds of both together
 pub all-append : {X : Type 0} (Q : X → Type 0) (xs : List X) (x : X) → AllByRecursion Q xs → Q x →
     AllByRecursion Q (xs ++ x ∷ [])
 all-append Q [] x all q = (q, tt)
 all-append Q (y ∷ ys) x all q = (all.0, all-append Q ys x all.1 q)
 
+-- the first value of a kind has it
 pub first-kind : (kind : Kind) → P.kind_of (first_value kind) ≡ kind
 first-kind K.Int = refl
 first-kind K.Bool = refl
 first-kind K.Seq = refl
-
--- a function of each of the statements inside a statement
-abbrev pub each : {N A : Type 0} → (Statement N → A) → List (Statement N) → List A
-each {N} {A} f ss = (former-Statement-If-1 N).map (Statement N) A f ss
-
--- statements one after the other, with numbers
-pub numbers_each : (cats : List (Cat Name)) (own : Cat Name) (ss : List (Statement Name)) (sc : Scope) →
-    N.in_turn (each (N.statement cats own) ss) sc ≡ N.body cats own ss sc
-numbers_each cats own [] sc = refl
-numbers_each cats own (s ∷ ss) sc =
-    ap (λ (r : Numbered (List (Statement Ref))). record
-    { part = (N.statement cats own s sc).part ∷ r.part; scope = r.scope })
-    (numbers_each cats own ss (N.statement cats own s sc).scope)
 
 -- the locals of statements with numbers
 each_locals : (ss : List (Statement Ref)) → flat_map (λ vs. vs) (each locals_of ss) ≡ flat_map locals_of ss
 each_locals [] = refl
 each_locals (s ∷ ss) = ap (λ vs. locals_of s ++ vs) (each_locals ss)
 
+-- the locals of a statement are told by its layer
 locals-roll : (d : Statement-F Ref (Statement Ref)) →
     locals_of (roll-Statement Ref d) ≡ locals_step
     (map-Statement Ref (Statement Ref) (List Stored) locals_of d)
 unfolding locals_of
 locals-roll d = fold-roll-Statement Ref (List Stored) locals_step d
 
+-- the locals of a choice
 pub locals-If : (cond : Expr Ref) (holds fails : List (Statement Ref)) →
     locals_of (SV.If cond holds fails) ≡ flat_map locals_of holds ++ flat_map locals_of fails
 locals-If cond holds fails =
@@ -125,18 +121,22 @@ locals-If cond holds fails =
     ∙ (ap (λ vs. vs ++ flat_map (λ vs. vs) (each locals_of fails)) (each_locals holds)
     ∙ ap (λ vs. flat_map locals_of holds ++ vs) (each_locals fails)))
 
+-- the locals of a loop
 pub locals-While : (cond : Expr Ref) (turn : List (Statement Ref)) →
     locals_of (SV.While cond turn) ≡ flat_map locals_of turn
 locals-While cond turn = ap locals_of (sym (rolls-While cond turn))
     ∙ (locals-roll (S.While cond turn) ∙ each_locals turn)
 
+-- the local of a `let`
 pub locals-Let : (name : Ref) (kind : Kind) (e : Expr Ref) →
     locals_of (SV.Let name kind e) ≡ first_value kind ∷ []
 locals-Let name kind e = ap locals_of (sym (rolls-Let name kind e)) ∙ locals-roll (S.Let name kind e)
 
+-- an assignment has no locals
 pub locals-Assign : (name : Ref) (e : Expr Ref) → locals_of (SV.Assign name e) ≡ []
 locals-Assign name e = ap locals_of (sym (rolls-Assign name e)) ∙ locals-roll (S.Assign name e)
 
+-- a call has no locals
 pub locals-Call : (bind : Option Ref) (call : Call Ref) → locals_of (SV.Call bind call) ≡ []
 locals-Call bind call = ap locals_of (sym (rolls-Call bind call)) ∙ locals-roll (S.Call bind call)
 
@@ -148,10 +148,12 @@ module _ (k : P.Scope) where
   unfolding P.statement_fits
   fits-roll d = fold-roll-Statement Ref Bool (P.statement_step k) d
 
+  -- the statements inside a statement fit where the body does
   each_fits : (ss : List (Statement Ref)) → P.all_true (each (P.statement_fits k) ss) ≡ P.body_fits k ss
   each_fits [] = refl
   each_fits (s ∷ ss) = ap (λ t. P.statement_fits k s && t) (each_fits ss)
 
+  -- whether a choice fits
   fits-If : (cond : Expr Ref) (holds fails : List (Statement Ref)) →
       P.statement_fits k (SV.If cond holds fails)
       ≡ (P.is_of K.Bool (P.kind_in k cond) && (P.body_fits k holds && P.body_fits k fails))
@@ -161,22 +163,26 @@ module _ (k : P.Scope) where
       (each_fits holds)
       ∙ ap (λ t. P.is_of K.Bool (P.kind_in k cond) && (P.body_fits k holds && t)) (each_fits fails)))
 
+  -- whether a loop fits
   fits-While : (cond : Expr Ref) (turn : List (Statement Ref)) →
       P.statement_fits k (SV.While cond turn) ≡ (P.is_of K.Bool (P.kind_in k cond) && P.body_fits k turn)
   fits-While cond turn =
       ap (P.statement_fits k) (sym (rolls-While cond turn)) ∙ (fits-roll (S.While cond turn)
       ∙ ap (λ t. P.is_of K.Bool (P.kind_in k cond) && t) (each_fits turn))
 
+  -- whether a `let` fits
   fits-Let : (name : Ref) (kind : Kind) (e : Expr Ref) →
       P.statement_fits k (SV.Let name kind e) ≡
       (P.is_of kind (P.kind_set k name) && P.is_of kind (P.kind_in k e))
   fits-Let name kind e = ap (P.statement_fits k) (sym (rolls-Let name kind e))
       ∙ fits-roll (S.Let name kind e)
 
+  -- whether an assignment fits
   fits-Assign : (name : Ref) (e : Expr Ref) → P.statement_fits k (SV.Assign name e)
       ≡ P.assigns k (P.kind_set k name) e
   fits-Assign name e = ap (P.statement_fits k) (sym (rolls-Assign name e)) ∙ fits-roll (S.Assign name e)
 
+  -- whether a call fits
   fits-Call : (bind : Option Ref) (call : Call Ref) →
       P.statement_fits k (SV.Call bind call) ≡ P.call_fits k P.is_total bind call
   fits-Call bind call = ap (P.statement_fits k) (sym (rolls-Call bind call)) ∙ fits-roll (S.Call bind call)
@@ -185,6 +191,7 @@ module _ (k : P.Scope) where
   abbrev pub LocalFits : Local → Type 0
   LocalFits l = (slice_get k.slots l.slot ≡ Some l.kind) × (l.is_param ≡ nat_lt l.slot k.params)
 
+  -- each visible local fits
   abbrev pub Sees : List Local → Type 0
   Sees visible = AllByRecursion LocalFits visible
 
@@ -213,22 +220,25 @@ module _ (cats : List (Cat Name)) (own : Cat Name) (number : ℕ) (k : P.Scope)
     pub low : k.params ≤ sc.next
     pub few : sc.next ≤ 32
 
-  -- a part of a text fits, and behind it the rest of the slots stands
+  -- a part of a text fits, and after it the rest of the slots stands
   pub record Kept (w sc : Scope) (ok : Bool) (rest : List Kind) : Type 0 where
     pub fits : ok ≡ true
     pub visible : w.visible ≡ sc.visible
     pub next : w.next ≡ sc.next
     pub sees : Sees k sc.visible
-    pub behind : drop sc.next k.slots ≡ rest
+    pub after : drop sc.next k.slots ≡ rest
     pub low : k.params ≤ sc.next
     pub few : sc.next ≤ 32
 
+  -- the kinds of values
   abbrev pub kinds_of : List Stored → List Kind
   kinds_of vs = map P.kind_of vs
 
+  -- the lines of calls whose method is partial
   abbrev pub at_partial : Call Name → List ℕ
   at_partial = lines_of cats own.given C.is_partial
 
+  -- a statement at which nothing is found fits, and its locals take the next slots
   abbrev pub StatementClaim : Statement Name → Type 0
   StatementClaim s = (w sc : Scope) (rest : List Kind) →
       Ready w sc (kinds_of (locals_of (N.statement cats own s sc).part)) rest →
@@ -236,6 +246,7 @@ module _ (cats : List (Cat Name)) (own : Cat Name) (number : ℕ) (k : P.Scope)
       Kept (W.statement all_at cats own number s w).scope (N.statement cats own s sc).scope
       (P.statement_fits k (N.statement cats own s sc).part) rest
 
+  -- a body at which nothing is found fits, and its locals take the next slots
   abbrev pub BodyClaim : List (Statement Name) → Type 0
   BodyClaim ss = (w sc : Scope) (rest : List Kind) →
       Ready w sc (kinds_of (flat_map locals_of (N.body cats own ss sc).part)) rest →
@@ -251,7 +262,7 @@ module _ (cats : List (Cat Name)) (own : Cat Name) (number : ℕ) (k : P.Scope)
         visible = ready.visible;
         next = ready.next;
         sees = ready.sees;
-        behind =
+        after =
             ready.ahead;
         low = ready.low;
         few = ready.few;
@@ -285,7 +296,7 @@ module _ (cats : List (Cat Name)) (own : Cat Name) (number : ℕ) (k : P.Scope)
         visible = one.visible;
         next = one.next;
         sees = one.sees;
-        ahead = one.behind;
+        ahead = one.after;
         low = one.low;
         few = one.few;
       })
@@ -296,43 +307,10 @@ module _ (cats : List (Cat Name)) (own : Cat Name) (number : ℕ) (k : P.Scope)
         visible = more.visible;
         next = more.next;
         sees = more.sees;
-        behind = more.behind;
+        after = more.after;
         low = more.low;
         few = more.few;
       }
-
-  -- a statement by its layer
-  walk-roll : (d : Statement-F Name (Statement Name)) (w : Scope) →
-      W.statement all_at cats own number (roll-Statement Name d) w
-      ≡ W.statement_step all_at cats own number
-      (map-Statement Name (Statement Name) Walk (W.statement all_at cats own number) d) w
-  unfolding W.statement
-  walk-roll d w = ap (λ (m : Walk). m w)
-      (fold-roll-Statement Name Walk (W.statement_step all_at cats own number) d)
-
-  number-roll : (d : Statement-F Name (Statement Name)) (sc : Scope) →
-      N.statement cats own (roll-Statement Name d) sc
-      ≡ N.statement_step cats own
-      (map-Statement Name (Statement Name) Numbering (N.statement cats own) d) sc
-  unfolding N.statement
-  number-roll d sc = ap (λ (m : Numbering). m sc)
-      (fold-roll-Statement Name Numbering (N.statement_step cats own) d)
-
-  walks-each : (ss : List (Statement Name)) (w : Scope) →
-      W.in_turn (each (W.statement all_at cats own number) ss) w ≡ W.body all_at cats own number ss w
-  walks-each [] w = refl
-  walks-each (s ∷ ss) w =
-      ap (λ (r : Walked). record
-      { lines = (W.statement all_at cats own number s w).lines ++ r.lines; scope = r.scope })
-      (walks-each ss (W.statement all_at cats own number s w).scope)
-
-  numbers-each : (ss : List (Statement Name)) (sc : Scope) →
-      N.in_turn (each (N.statement cats own) ss) sc ≡ N.body cats own ss sc
-  numbers-each [] sc = refl
-  numbers-each (s ∷ ss) sc =
-      ap (λ (r : Numbered (List (Statement Ref))). record
-      { part = (N.statement cats own s sc).part ∷ r.part; scope = r.scope })
-      (numbers-each ss (N.statement cats own s sc).scope)
 
   -- the claim on a statement by what its walk and its numbering are
   claim-by : (s : Statement Name) →
@@ -358,10 +336,11 @@ module _ (cats : List (Cat Name)) (own : Cat Name) (number : ℕ) (k : P.Scope)
       part-known own visible k agrees e wanted (has_kind own visible k agrees e) clean.unknown clean.kind
       clean.type (sized-by e clean.number)
 
+  -- two tests that hold, hold together
   pub both-true : (a b : Bool) → a ≡ true → b ≡ true → (a && b) ≡ true
   both-true a b h g = ap (λ t. t && b) h ∙ g
 
-  -- nothing changes behind a statement without locals
+  -- nothing changes after a statement without locals
   still : (w sc : Scope) (fits : Bool) (kinds rest : List Kind) → Ready w sc kinds rest → kinds ≡ [] →
       fits ≡ true → Kept w sc fits rest
   still w sc fits kinds rest ready none h = record {
@@ -369,18 +348,19 @@ module _ (cats : List (Cat Name)) (own : Cat Name) (number : ℕ) (k : P.Scope)
     visible = ready.visible;
     next = ready.next;
     sees = ready.sees;
-    behind = ready.ahead ∙ ap (λ ks. ks ++ rest) none;
+    after = ready.ahead ∙ ap (λ ks. ks ++ rest) none;
     low = ready.low;
     few = ready.few;
   }
 
+  -- a `let`
   let-claim : (name : Name) (kind : Kind) (e : Expr Name) →
       StatementClaim (roll-Statement Name (S.Let name kind e))
   let-claim name kind e = claim-by (roll-Statement Name (S.Let name kind e)) (λ w sc. (
     _,
     _,
-    walk-roll (S.Let name kind e) w,
-    number-roll (S.Let name kind e) sc,
+    walk-roll all_at cats own number (S.Let name kind e) w,
+    number-roll cats own (S.Let name kind e) sc,
     λ rest ready lines calls.
         let e' : Expr Ref = N.expression own sc.visible e in
         let clean : Clean (Value own sc.visible (Some kind) e) =
@@ -408,7 +388,7 @@ module _ (cats : List (Cat Name)) (own : Cat Name) (number : ℕ) (k : P.Scope)
           sees = all-append (LocalFits k) sc.visible
               (record { name = name; kind = kind; slot = sc.next; is_param = false }) ready.sees
               (slot, sym high);
-          behind = ap (λ n. drop n k.slots) plus ∙ drop-next k.slots sc.next kind rest ahead;
+          after = ap (λ n. drop n k.slots) plus ∙ drop-next k.slots sc.next kind rest ahead;
           low = (let l : k.params ≤ sc.next = ready.low in omega (arith, l));
           few = (let most : sc.next ≤ 32 = ready.few in let not : w.next ≢ 32 = not-limit w.next 32 name.line
               (clean_by (W.LocalName own number w name)
@@ -418,12 +398,13 @@ module _ (cats : List (Cat Name)) (own : Cat Name) (number : ℕ) (k : P.Scope)
         },
   ))
 
+  -- an assignment
   assign-claim : (name : Name) (e : Expr Name) → StatementClaim (roll-Statement Name (S.Assign name e))
   assign-claim name e = claim-by (roll-Statement Name (S.Assign name e)) (λ w sc. (
     _,
     _,
-    walk-roll (S.Assign name e) w,
-    number-roll (S.Assign name e) sc,
+    walk-roll all_at cats own number (S.Assign name e) w,
+    number-roll cats own (S.Assign name e) sc,
     λ rest ready lines calls.
         let e' : Expr Ref = N.expression own sc.visible e in
         let r : Ref = N.name_ref own sc.visible name in
@@ -454,6 +435,7 @@ module _ (cats : List (Cat Name)) (own : Cat Name) (number : ℕ) (k : P.Scope)
       by_form (F.Partial alts) s a p = absurd (cc)
       by_form (F.Action alts) s a p = absurd (cc)
 
+  -- a method that is no action and not total is partial
   pub is-partial : (c : Cat Name) (q : Proc Name) → WK.is_action q.form ≡ false →
       C.is_total q.form ≡ false → P.is_partial (N.procedure cats c q).form ≡ true
   is-partial c q a p = by_form q.form (Sc.with_result q (N.with_params q.params (Sc.at_head q []))) a p
@@ -487,12 +469,13 @@ module _ (cats : List (Cat Name)) (own : Cat Name) (number : ℕ) (k : P.Scope)
       (clean_by (Takes cats own visible (W.kind_of (meaning_of own visible name)) name c)
       (none-right (all_at (Assigned own visible name)) _ lines)) called found.1 found.2
 
+  -- a call
   call-claim : (bind : Option Name) (c : Call Name) → StatementClaim (roll-Statement Name (S.Call bind c))
   call-claim bind c = claim-by (roll-Statement Name (S.Call bind c)) (λ w sc. (
     _,
     _,
-    walk-roll (S.Call bind c) w,
-    number-roll (S.Call bind c) sc,
+    walk-roll all_at cats own number (S.Call bind c) w,
+    number-roll cats own (S.Call bind c) sc,
     λ rest ready lines calls.
         let agrees : Agrees own sc.visible k = agrees_by k own sc.visible in_cat ready.sees in
         let lines' : W.taken all_at cats own sc.visible bind c ++ W.call all_at cats own sc.visible c ≡ [] =
@@ -514,6 +497,7 @@ module _ (cats : List (Cat Name)) (own : Cat Name) (number : ℕ) (k : P.Scope)
         (taken-fits sc.visible agrees bind c n.method n.called (none-left _ _ lines'))),
   ))
 
+  -- a choice by its bodies
   if-claim : (cond : Expr Name) (holds fails : List (Statement Name)) → BodyClaim holds → BodyClaim fails →
       StatementClaim (roll-Statement Name (S.If cond holds fails))
   if-claim cond holds fails on_holds on_fails = claim-by (roll-Statement Name (S.If cond holds fails))
@@ -529,8 +513,8 @@ module _ (cats : List (Cat Name)) (own : Cat Name) (number : ℕ) (k : P.Scope)
               behind w w2.scope;
         },
         record { part = SV.If cond' n1.part n2.part; scope = behind sc n2.scope },
-        walk-roll (S.If cond holds fails) w ∙ if-walk w cond holds fails,
-        number-roll (S.If cond holds fails) sc ∙ if-number sc cond holds fails,
+        walk-roll all_at cats own number (S.If cond holds fails) w ∙ if-walk w cond holds fails,
+        number-roll cats own (S.If cond holds fails) sc ∙ if-number sc cond holds fails,
         λ rest ready lines calls.
             let h' : List Kind = kinds_of (flat_map locals_of n1.part) in
             let f' : List Kind = kinds_of (flat_map locals_of n2.part) in
@@ -562,7 +546,7 @@ module _ (cats : List (Cat Name)) (own : Cat Name) (number : ℕ) (k : P.Scope)
               visible = ready.visible;
               next = first.next;
               sees = ready.sees;
-              ahead = first.behind;
+              ahead = first.after;
               low = first.low;
               few = first.few;
             })
@@ -574,7 +558,7 @@ module _ (cats : List (Cat Name)) (own : Cat Name) (number : ℕ) (k : P.Scope)
               visible = ready.visible;
               next = second.next;
               sees = ready.sees;
-              behind = second.behind;
+              after = second.after;
               low = second.low;
               few = second.few;
             },
@@ -599,12 +583,13 @@ module _ (cats : List (Cat Name)) (own : Cat Name) (number : ℕ) (k : P.Scope)
                 (behind w r.scope)).lines);
             scope = behind w (W.in_turn (each (W.statement all_at cats own number) fails)
                 (behind w r.scope)).scope;
-          }) (walks-each holds w)
+          }) (walks-each all_at cats own number holds w)
           ∙ ap (λ (r : Walked). record {
             lines = all_at (Value own w.visible (Some K.Bool) cond)
                 ++ ((W.body all_at cats own number holds w).lines ++ r.lines);
             scope = behind w r.scope;
-          }) (walks-each fails (behind w (W.body all_at cats own number holds w).scope))
+          })
+          (walks-each all_at cats own number fails (behind w (W.body all_at cats own number holds w).scope))
 
       if-number : (sc : Scope) (cond : Expr Name) (holds fails : List (Statement Name)) →
           N.statement_step cats own
@@ -620,12 +605,13 @@ module _ (cats : List (Cat Name)) (own : Cat Name) (number : ℕ) (k : P.Scope)
             part = SV.If (N.expression own sc.visible cond) r.part
                 (N.in_turn (each (N.statement cats own) fails) (behind sc r.scope)).part;
             scope = behind sc (N.in_turn (each (N.statement cats own) fails) (behind sc r.scope)).scope;
-          }) (numbers-each holds sc)
+          }) (numbers-each cats own holds sc)
           ∙ ap (λ (r : Numbered (List (Statement Ref))). record {
             part = SV.If (N.expression own sc.visible cond) (N.body cats own holds sc).part r.part;
             scope = behind sc r.scope;
-          }) (numbers-each fails (behind sc (N.body cats own holds sc).scope))
+          }) (numbers-each cats own fails (behind sc (N.body cats own holds sc).scope))
 
+  -- a loop by its body
   while-claim : (cond : Expr Name) (turn : List (Statement Name)) → BodyClaim turn →
       StatementClaim (roll-Statement Name (S.While cond turn))
   while-claim cond turn on_turn = claim-by (roll-Statement Name (S.While cond turn)) (λ w sc.
@@ -638,15 +624,15 @@ module _ (cats : List (Cat Name)) (own : Cat Name) (number : ℕ) (k : P.Scope)
               behind w w1.scope;
         },
         record { part = SV.While cond' n1.part; scope = behind sc n1.scope },
-        walk-roll (S.While cond turn) w
+        walk-roll all_at cats own number (S.While cond turn) w
             ∙ ap (λ (r : Walked). record {
               lines = all_at (Value own w.visible (Some K.Bool) cond) ++ r.lines;
               scope =
                   behind w r.scope;
-            }) (walks-each turn w),
-        number-roll (S.While cond turn) sc
+            }) (walks-each all_at cats own number turn w),
+        number-roll cats own (S.While cond turn) sc
             ∙ ap (λ (r : Numbered (List (Statement Ref))). record
-            { part = SV.While cond' r.part; scope = behind sc r.scope }) (numbers-each turn sc),
+            { part = SV.While cond' r.part; scope = behind sc r.scope }) (numbers-each cats own turn sc),
         λ rest ready lines calls.
             let clean : Clean (Value own sc.visible (Some K.Bool) cond) =
             clean_by (Value own sc.visible (Some K.Bool) cond)
@@ -669,7 +655,7 @@ module _ (cats : List (Cat Name)) (own : Cat Name) (number : ℕ) (k : P.Scope)
               visible = ready.visible;
               next = inside.next;
               sees = ready.sees;
-              behind = inside.behind;
+              after = inside.after;
               low = inside.low;
               few = inside.few;
             },
@@ -683,6 +669,7 @@ module _ (cats : List (Cat Name)) (own : Cat Name) (number : ℕ) (k : P.Scope)
   each-claims [] = tt
   each-claims (y ∷ ys) = (y.1, each-claims ys)
 
+  -- a statement by those inside it
   layer-claim : (y : Statement-F Name ((s : Statement Name) × StatementClaim s)) →
       StatementClaim (roll-Statement Name
       (map-Statement Name ((s : Statement Name) × StatementClaim s) (Statement Name) (λ y. y.0) y))
@@ -693,6 +680,7 @@ module _ (cats : List (Cat Name)) (own : Cat Name) (number : ℕ) (k : P.Scope)
       (body_claim _ (each-claims fails))
   layer-claim (S.While cond turn) = while-claim cond _ (body_claim _ (each-claims turn))
 
+  -- each statement
   pub statement_claim : (s : Statement Name) → StatementClaim s
   statement_claim = ind-Statement Name StatementClaim
       (λ x y is. subst (λ d. StatementClaim (roll-Statement Name d)) is (layer-claim y))

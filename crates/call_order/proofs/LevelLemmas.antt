@@ -8,8 +8,10 @@ use Rattle.seuss_program.specs.Programs.{level_of, level_in}
 use Rattle.seuss_program.specs.Keeping.{above}
 use Rattle.call_order.specs.Cycles.{given_of, GivesBoxes, HasNoCycle}
 use Rattle.call_order.specs.Marks.{KnowsAllGiven}
-use Rattle.call_order.specs.Levels.{AreLevels, IsLevelled, level_at, level_above, next_levels, levels_after}
-use Rattle.call_order.specs.Levels.{set_levels, without_level}
+use Rattle.call_order.specs.LevelLists.{AreLevels, level_at, level_above, next_levels, set_levels}
+use Rattle.call_order.specs.Levels.{IsLevelled}
+use Rattle.call_order.specs.Levels.{without_level}
+use Rattle.call_order.proofs.LevelRounds.{levels_after}
 use Rattle.call_order.proofs.MarkLemmas.{marked, marked-most, falls}
 
 -- the level of a box in the next round
@@ -19,10 +21,12 @@ next-at [] levels box = refl
 next-at (b ∷ bs) levels zero = refl
 next-at (b ∷ bs) levels (suc box) = next-at bs levels box
 
+-- the next round has a level for each box
 next-length : (boxes : List BoxInfo) (levels : List ℕ) → length (next_levels boxes levels) ≡ length boxes
 next-length [] levels = refl
 next-length (b ∷ bs) levels = ap suc (next-length bs levels)
 
+-- what is above small levels is small
 above-small : (levels : List ℕ) (n : ℕ) (gs : List ℕ) → ((g : ℕ) → level_at levels g ≤ n) →
     level_above levels gs ≤ n + 1
 above-small levels n [] h = omega arith
@@ -30,6 +34,7 @@ above-small levels n (g ∷ gs) h =
     let rest : level_above levels gs ≤ n + 1 = above-small levels n gs h in
     omega (arith, h g, rest)
 
+-- after some rounds no level is greater than their number
 after-small : (boxes : List BoxInfo) (r box : ℕ) → level_at (levels_after boxes r) box ≤ r
 after-small boxes zero box = omega arith
 after-small boxes (suc r) box =
@@ -40,7 +45,7 @@ after-small boxes (suc r) box =
     above-small (levels_after boxes r) r (given_of boxes box) (after-small boxes r) in
     omega (arith, same, small)
 
--- no level is large
+-- after fewer than 1000 rounds no level is large
 pub all_small : (boxes : List BoxInfo) (r : ℕ) (levels : List ℕ) → levels ≡ levels_after boxes r →
     r < 1000 → All (λ level. level < 1000) levels
 all_small boxes r levels is h k d below =
@@ -84,6 +89,7 @@ module _ (boxes : List BoxInfo) (rows : List (List Bool)) (there : GivesBoxes bo
       falls boxes rows acyclic there known box g below c in omega (arith, less, few)))
       ∙ sym (next-at boxes (levels_after boxes r) box))
 
+  -- after more rounds than there are boxes the levels are right
   pub are_levels : (r : ℕ) (levels : List ℕ) → levels ≡ levels_after boxes r → length boxes < r →
       AreLevels boxes levels
   unfolding rank
@@ -99,16 +105,18 @@ module _ (boxes : List BoxInfo) (rows : List (List Bool)) (there : GivesBoxes bo
         sym (settled (suc r) box below few) ∙ next-at boxes (levels_after boxes (suc r)) box;
   })
 
+-- nothing more changes no boxes
 append-none : (bs : List BoxInfo) → bs ++ [] ≡ bs
 append-none [] = refl
 append-none (b ∷ bs) = ap (λ (l : List BoxInfo). b ∷ l) (append-none bs)
 
--- no box is left to be levelled, or no level
+-- where no box is left, those with levels are all
 pub none_left : (done all : List BoxInfo) (bs : List BoxInfo) (ns : List ℕ) →
     done ++ set_levels bs ns ≡ all → length bs ≡ 0 → done ≡ all
 none_left done all [] ns h e = sym (append-none done) ∙ h
 none_left done all (b ∷ bs) ns h e = absurd (omega (arith, e))
 
+-- where no level is left, those with levels are all
 pub no_level_left : (done all : List BoxInfo) (bs : List BoxInfo) (ns : List ℕ) →
     done ++ set_levels bs ns ≡ all → length ns ≡ 0 → done ≡ all
 no_level_left done all [] ns h e = sym (append-none done) ∙ h
@@ -123,13 +131,14 @@ without (b ∷ bs) [] h = absurd (omega (arith, h))
 without (b ∷ bs) (n ∷ ns) h = ap (λ (l : List BoxInfo). without_level b ∷ l)
     (without bs ns (omega (arith, h)))
 
+-- with levels there are as many boxes
 pub set-length : (bs : List BoxInfo) (ns : List ℕ) → length ns ≡ length bs →
     length (set_levels bs ns) ≡ length bs
 set-length [] ns h = refl
 set-length (b ∷ bs) [] h = absurd (omega (arith, h))
 set-length (b ∷ bs) (n ∷ ns) h = ap suc (set-length bs ns (omega (arith, h)))
 
--- the level of a box that has it set, and what it is given
+-- the level that is set is that of the box
 set-level : (bs : List BoxInfo) (ns : List ℕ) (k : ℕ) → length ns ≡ length bs →
     level_in (slice_get (set_levels bs ns) k) ≡ level_at ns k
 set-level [] [] k h = refl
@@ -138,6 +147,7 @@ set-level (b ∷ bs) [] k h = absurd (omega (arith, h))
 set-level (b ∷ bs) (n ∷ ns) zero h = refl
 set-level (b ∷ bs) (n ∷ ns) (suc k) h = set-level bs ns k (omega (arith, h))
 
+-- a box with its level has it, and is given the same boxes
 set-box : (bs : List BoxInfo) (ns : List ℕ) (k : ℕ) (d : BoxInfo) → length ns ≡ length bs → k < length bs →
     ((slice_index_or (set_levels bs ns) k d).level ≡ level_at ns k)
     × ((slice_index_or (set_levels bs ns) k d).given ≡ given_of bs k)
@@ -146,6 +156,7 @@ set-box (b ∷ bs) [] k d h below = absurd (omega (arith, h))
 set-box (b ∷ bs) (n ∷ ns) zero d h below = (refl, refl)
 set-box (b ∷ bs) (n ∷ ns) (suc k) d h below = set-box bs ns k d (omega (arith, h)) (omega (arith, below))
 
+-- functions that are the same everywhere are so on a list
 map-same : (f g : ℕ → ℕ) → ((k : ℕ) → f k ≡ g k) → (xs : List ℕ) → map f xs ≡ map g xs
 map-same f g h [] = refl
 map-same f g h (x ∷ xs) = let here : f x ≡ g x = h x in let rest : map f xs ≡ map g xs =
@@ -167,6 +178,7 @@ levels_right bs ns p right is = subst
     parts.0 ∙ (right.each k under ∙ (ap above (map-same (level_at ns) (level_of p) same (given_of bs k))
     ∙ ap (λ (l : List ℕ). above (map (level_of p) l)) (sym parts.1))))
 
+-- a program with right levels is the named one with levels
 pub is_levelled : (named p : Program) (ns : List ℕ) → AreLevels named.boxes ns →
     p.boxes ≡ set_levels named.boxes ns → p.cats ≡ named.cats → p.actions ≡ named.actions →
     IsLevelled named p

@@ -1,3 +1,4 @@
+-- Lemmas by subject.
 pub mod CallLemmas
 pub mod CheckedLemmas
 pub mod KeptCalls
@@ -8,7 +9,10 @@ pub mod KeptProcedures
 pub mod KeptPrograms
 pub mod KeptStatements
 pub mod LevelLemmas
+pub mod LevelRounds
 pub mod MarkLemmas
 pub mod NumberLemmas
 pub mod NumberPlaces
+pub mod OneLevelling
 pub mod OrderLemmas
+pub mod StatementLayers

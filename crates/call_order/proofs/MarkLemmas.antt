@@ -18,6 +18,7 @@ set-here [] k h = absurd (omega (arith, h))
 set-here (m ∷ ms) zero h = refl
 set-here (m ∷ ms) (suc k) h = set-here ms k (omega (arith, h))
 
+-- one more mark keeps the others
 set-keeps : (ms : List Bool) (g k : ℕ) → IsMarked ms k → IsMarked (slice_set ms g true) k
 set-keeps [] g k h = h
 set-keeps (m ∷ ms) zero zero h = refl
@@ -25,6 +26,7 @@ set-keeps (m ∷ ms) zero (suc k) h = h
 set-keeps (m ∷ ms) (suc g) zero h = h
 set-keeps (m ∷ ms) (suc g) (suc k) h = set-keeps ms g k h
 
+-- one more mark is the only one
 set-only : (ms : List Bool) (g k : ℕ) → IsMarked (slice_set ms g true) k → IsMarked ms k ⊎ (k ≡ g)
 set-only [] g k h = inl h
 set-only (m ∷ ms) zero zero h = inr refl
@@ -32,6 +34,7 @@ set-only (m ∷ ms) zero (suc k) h = inl h
 set-only (m ∷ ms) (suc g) zero h = inl h
 set-only (m ∷ ms) (suc g) (suc k) h = elim (set-only ms g k h) [ inl a ↦ inl a | inr e ↦ inr (ap suc e) ]
 
+-- one more mark doesn't change how many boxes there are
 set-length : (ms : List Bool) (g : ℕ) → length (slice_set ms g true) ≡ length ms
 set-length [] g = refl
 set-length (m ∷ ms) zero = refl
@@ -46,6 +49,7 @@ with-length : (gs : List ℕ) (ms : List Bool) → length (marked_with gs ms) �
 with-length [] ms = refl
 with-length (g ∷ gs) ms = with-length gs (slice_set ms g true) ∙ set-length ms g
 
+-- more marks keep the others
 with-keeps : (gs : List ℕ) (ms : List Bool) (k : ℕ) → IsMarked ms k → IsMarked (marked_with gs ms) k
 with-keeps [] ms k h = h
 with-keeps (g ∷ gs) ms k h = with-keeps gs (slice_set ms g true) k (set-keeps ms g k h)
@@ -55,6 +59,7 @@ among-cons : (g : ℕ) (gs : List ℕ) (k : ℕ) → Contains (g ∷ gs) k → (
 among-cons g gs k (zero, below, is) = inl is
 among-cons g gs k (suc i, below, is) = inr (i, omega (arith, below), is)
 
+-- these boxes are marked
 with-covers : (gs : List ℕ) (ms : List Bool) (k : ℕ) → Contains gs k → k < length ms →
     IsMarked (marked_with gs ms) k
 with-covers [] ms k h below = absurd (omega (arith, h.1))
@@ -64,6 +69,7 @@ with-covers (g ∷ gs) ms k h below = elim (among-cons g gs k h) [
   | inr c ↦ with-covers gs (slice_set ms g true) k c (subst (λ n. k < n) (sym (set-length ms g)) below)
 ]
 
+-- these marks are the only ones
 with-only : (gs : List ℕ) (ms : List Bool) (k : ℕ) → IsMarked (marked_with gs ms) k →
     IsMarked ms k ⊎ Contains gs k
 with-only [] ms k h = inl h
@@ -72,11 +78,13 @@ with-only (g ∷ gs) ms k h = elim (with-only gs (slice_set ms g true) k h) [
   | inr c ↦ inr (suc c.0, omega (arith, c.1), c.2)
 ]
 
+-- no box is marked
 no-marks : (n k : ℕ) → IsMarked (no_marks n) k → ⊥
 no-marks zero k h = absurd (cc)
 no-marks (suc n) zero h = absurd (cc)
 no-marks (suc n) (suc k) h = no-marks n k h
 
+-- there are as many places for marks
 pub no_marks_count : (n : ℕ) → length (no_marks n) ≡ n
 no_marks_count zero = refl
 no_marks_count (suc n) = ap suc (no_marks_count n)
@@ -88,6 +96,7 @@ marked-most [] = omega arith
 marked-most (true ∷ ms) = let r : marked ms ≤ length ms = marked-most ms in omega (arith, r)
 marked-most (false ∷ ms) = let r : marked ms ≤ length ms = marked-most ms in omega (arith, r)
 
+-- more marks on all boxes are more on all but the first
 tail-has : (m n : Bool) (ms ns : List Bool) → Has (n ∷ ns) (m ∷ ms) → Has ns ms
 unfolding Has
 tail-has m n ms ns h k is = h (suc k) is
@@ -126,32 +135,39 @@ module _ (boxes : List BoxInfo) where
   one : Bool → ℕ → List Bool → List Bool
   one t b ms = if t then marked_with (given_of boxes b) ms else ms
 
+  -- a step keeps the marks
   one-keeps : (t : Bool) (b : ℕ) (ms : List Bool) (k : ℕ) → IsMarked ms k → IsMarked (one t b ms) k
   unfolding one
   one-keeps true b ms k h = with-keeps (given_of boxes b) ms k h
   one-keeps false b ms k h = h
 
+  -- a step keeps how many boxes there are
   one-length : (t : Bool) (b : ℕ) (ms : List Bool) → length (one t b ms) ≡ length ms
   unfolding one
   one-length true b ms = with-length (given_of boxes b) ms
   one-length false b ms = refl
 
+  -- a box spreads its marks where it is marked
   from-is : (b : ℕ) (ms : List Bool) → spread_from boxes b ms ≡ one (slice_index_or ms b false) b ms
   unfolding one
   from-is b ms = refl
 
+  -- spreading from a box keeps the marks
   from-keeps : (b : ℕ) (ms : List Bool) (k : ℕ) → IsMarked ms k → IsMarked (spread_from boxes b ms) k
   from-keeps b ms k h = subst (λ l. IsMarked l k) (sym (from-is b ms))
       (one-keeps (slice_index_or ms b false) b ms k h)
 
+  -- spreading from a box keeps how many boxes there are
   pub from-length : (b : ℕ) (ms : List Bool) → length (spread_from boxes b ms) ≡ length ms
   from-length b ms = ap (λ (l : List Bool). length l) (from-is b ms)
       ∙ one-length (slice_index_or ms b false) b ms
 
+  -- spreading from the first boxes keeps the marks
   below-keeps : (n : ℕ) (ms : List Bool) (k : ℕ) → IsMarked ms k → IsMarked (spread_below boxes n ms) k
   below-keeps zero ms k h = h
   below-keeps (suc n) ms k h = from-keeps n (spread_below boxes n ms) k (below-keeps n ms k h)
 
+  -- spreading from the first boxes keeps how many boxes there are
   below-length : (n : ℕ) (ms : List Bool) → length (spread_below boxes n ms) ≡ length ms
   below-length zero ms = refl
   below-length (suc n) ms = from-length n (spread_below boxes n ms) ∙ below-length n ms
@@ -163,6 +179,7 @@ module _ (boxes : List BoxInfo) where
       subst (λ (t : Bool). IsMarked (if t then marked_with (given_of boxes b) ms else ms) g) (sym h)
       (with-covers (given_of boxes b) ms g c below)
 
+  -- what a marked box among the first ones is given is marked
   below-covers : (n j g : ℕ) (ms : List Bool) → j < n → IsMarked ms j → Contains (given_of boxes j) g →
       g < length ms → IsMarked (spread_below boxes n ms) g
   below-covers zero j g ms h is c below = absurd (omega (arith, h))
@@ -186,6 +203,7 @@ module _ (boxes : List BoxInfo) where
   Sound : ℕ → List Bool → Type 0
   Sound f ms = (k : ℕ) → IsMarked ms k → IsGiven boxes f k
 
+  -- a step marks only what is given
   one-only : (f b : ℕ) (ms : List Bool) (t : Bool) → slice_index_or ms b false ≡ t → Sound f ms →
       Sound f (one t b ms)
   unfolding one Sound
@@ -195,6 +213,7 @@ module _ (boxes : List BoxInfo) where
     | inr c ↦ let to = sound b is in (suc to.0, snoc to.0 f b k to.1 c)
   ]
 
+  -- spreading from the first boxes marks only what is given
   below-only : (f n : ℕ) (ms : List Bool) → Sound f ms → Sound f (spread_below boxes n ms)
   below-only f zero ms sound = sound
   below-only f (suc n) ms sound =
@@ -202,15 +221,18 @@ module _ (boxes : List BoxInfo) where
       subst (Sound f) (sym (from-is n m))
       (one-only f n m (slice_index_or m n false) refl (below-only f n ms sound))
 
+  -- spreading several times marks only what is given
   times-only : (f r : ℕ) (ms : List Bool) → Sound f ms → Sound f (spread_times boxes r ms)
   times-only f zero ms sound = sound
   times-only f (suc r) ms sound = below-only f (length boxes) (spread_times boxes r ms)
       (times-only f r ms sound)
 
+  -- spreading several times keeps the marks
   times-keeps : (r : ℕ) (ms : List Bool) (k : ℕ) → IsMarked ms k → IsMarked (spread_times boxes r ms) k
   times-keeps zero ms k h = h
   times-keeps (suc r) ms k h = below-keeps (length boxes) (spread_times boxes r ms) k (times-keeps r ms k h)
 
+  -- spreading several times keeps how many boxes there are
   times-length : (r : ℕ) (ms : List Bool) → length (spread_times boxes r ms) ≡ length ms
   times-length zero ms = refl
   times-length (suc r) ms = below-length (length boxes) (spread_times boxes r ms) ∙ times-length r ms
@@ -219,25 +241,30 @@ module _ (boxes : List BoxInfo) where
   pass : List Bool → List Bool
   pass ms = spread_below boxes (length boxes) ms
 
+  -- one more time is the same before as after
   times-shift : (r : ℕ) (ms : List Bool) → spread_times boxes (suc r) ms ≡ spread_times boxes r (pass ms)
   unfolding pass
   times-shift zero ms = refl
   times-shift (suc r) ms = ap pass (times-shift r ms)
 
+  -- where one pass marks nothing, no more do
   times-same : (r : ℕ) (ms : List Bool) → pass ms ≡ ms → spread_times boxes r ms ≡ ms
   unfolding pass
   times-same zero ms h = refl
   times-same (suc r) ms h = ap pass (times-same r ms h) ∙ h
 
+  -- a pass marks nothing, or there are more marks
   pass-more : (ms : List Bool) → (ms ≡ pass ms) ⊎ (marked ms < marked (pass ms))
   unfolding pass Has
   pass-more ms = marked-more ms (pass ms) (sym (below-length (length boxes) ms))
       (below-keeps (length boxes) ms)
 
+  -- a pass keeps how many boxes there are
   pass-length : (ms : List Bool) → length (pass ms) ≡ length ms
   unfolding pass
   pass-length ms = below-length (length boxes) ms
 
+  -- after as many passes as there are boxes nothing is left to be marked
   stable : (r : ℕ) (ms : List Bool) → length ms ≤ r + marked ms →
       pass (spread_times boxes r ms) ≡ spread_times boxes r ms
   stable zero ms h = elim (pass-more ms) [
@@ -267,11 +294,13 @@ module _ (boxes : List BoxInfo) where
   begun : ℕ → List Bool
   begun box = marked_with (given_of boxes box) (no_marks (length boxes))
 
+  -- there is a mark for each box to begin with
   begun-length : (box : ℕ) → length (begun box) ≡ length boxes
   unfolding begun
   begun-length box = with-length (given_of boxes box) (no_marks (length boxes))
       ∙ no_marks_count (length boxes)
 
+  -- the marks to begin with are on what is given
   begun-only : (box : ℕ) → Sound box (begun box)
   unfolding Sound begun
   begun-only box k h = elim (with-only (given_of boxes box) (no_marks (length boxes)) k h) [
@@ -279,6 +308,7 @@ module _ (boxes : List BoxInfo) where
     | inr c ↦ (0, c)
   ]
 
+  -- what is given is marked to begin with
   begun-covers : GivesBoxes boxes → (box g : ℕ) → Contains (given_of boxes box) g → IsMarked (begun box) g
   unfolding begun
   begun-covers gives box g c =
@@ -306,6 +336,7 @@ module _ (boxes : List BoxInfo) where
         ));
       })
 
+  -- the marks of a box are exactly on what it is given
   pub row_known : GivesBoxes boxes → (box : ℕ) (given : List ℕ) (row : List Bool) →
       given ≡ given_of boxes box →
       row ≡ spread_times boxes (length boxes) (marked_with given (no_marks (length boxes))) →
@@ -321,6 +352,7 @@ module _ (boxes : List BoxInfo) where
       spread_below boxes m ms ≡ spread_from boxes n (spread_below boxes n ms)
   spread_next n m ms h = let e : m ≡ suc n = omega (arith, h) in ap (λ k. spread_below boxes k ms) e
 
+  -- one more pass
   pub times_next : (n m : ℕ) (ms : List Bool) → m ≡ n + 1 →
       spread_times boxes m ms ≡ spread_below boxes (length boxes) (spread_times boxes n ms)
   times_next n m ms h = let e : m ≡ suc n = omega (arith, h) in ap (λ k. spread_times boxes k ms) e
@@ -346,6 +378,7 @@ no-marks-push : (n : ℕ) → no_marks (suc n) ≡ no_marks n ++ false ∷ []
 no-marks-push zero = refl
 no-marks-push (suc n) = ap (λ l. false ∷ l) (no-marks-push n)
 
+-- one more place without a mark
 pub no_marks_next : (n m : ℕ) (ms : List Bool) → m ≡ n + 1 → ms ≡ no_marks n → ms ++ false ∷ [] ≡ no_marks m
 no_marks_next n m ms h is =
     let e : m ≡ suc n = omega (arith, h) in
@@ -408,6 +441,7 @@ none-beyond [] n k h c = omega (arith, c.1)
 none-beyond (b ∷ bs) zero k h c = omega (arith, h)
 none-beyond (b ∷ bs) (suc n) k h c = none-beyond bs n k (omega (arith, h)) c
 
+-- what is given through others begins with a given box
 starts : (boxes : List BoxInfo) (n box k : ℕ) → IsGivenThrough boxes n box k →
     (g : ℕ) × Contains (given_of boxes box) g
 starts boxes zero box k h = (k, h)

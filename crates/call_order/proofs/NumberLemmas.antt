@@ -11,7 +11,7 @@ use Rattle.seuss_program.specs.declared.tree.Statement.TheOpen.{Statement-F}
 use Rattle.seuss_program.specs.Keeping.{all_true}
 use Rattle.seuss_program.specs.WellFormed.{node_numbers, has_numbers, numbers_step, statement_numbers}
 use Rattle.seuss_program.specs.WellFormed.{body_numbers}
-use Rattle.box_types.proofs.Walked.{each}
+use Rattle.call_order.proofs.StatementLayers.{each}
 
 -- what holds of two parts holds of each
 pub both : (a b : Bool) → (a && b) ≡ true → (a ≡ true) × (b ≡ true)

@@ -11,8 +11,6 @@ use Rattle.seuss_program.specs.declared.tree.Call.{Call}
 use Rattle.seuss_program.specs.declared.tree.Pre.{Pre}
 use Rattle.seuss_program.specs.declared.tree.Statement.{Statement, map-Statement, roll-Statement}
 use Rattle.seuss_program.specs.declared.tree.Statement.{ind-Statement}
-use Rattle.seuss_program.specs.declared.tree.Statement.TheVariants.{rolls-Let, rolls-Assign, rolls-Call}
-use Rattle.seuss_program.specs.declared.tree.Statement.TheVariants.{rolls-If, rolls-While}
 use Rattle.seuss_program.specs.declared.tree.Statement.TheOpen as S
 use Rattle.seuss_program.specs.declared.tree.Statement.TheOpen.{Statement-F}
 use Rattle.seuss_program.specs.declared.tree.Statement.TheShapes.{former-Statement-If-1}
@@ -35,8 +33,8 @@ use Rattle.box_types.specs.Walks as W
 use Rattle.box_types.specs.Walks.{Test, Walked, CatName, GivenName, VarName, ProcName, LocalName, GivenCat}
 use Rattle.box_types.specs.Walks.{When, Value, Assigned, Takes, Target, Method, First, Second, HintName}
 use Rattle.box_types.specs.Walks.{BoxName, BoxCat, BoxGiven}
-use Rattle.box_types.proofs.Walked.{each, walk-Let, walk-Assign, walk-Call, walk-If, walk-While}
 use Rattle.call_order.proofs.NumberLemmas.{both, statement-roll, each-numbers}
+use Rattle.call_order.proofs.StatementLayers.{each, walk-roll, walks-each}
 
 -- an expression with a number that has more than 64 bits
 abbrev pub number_at : Test
@@ -110,6 +108,7 @@ module _ (cats : List (Cat Name)) where
       StatementSized s = (w : Scope) → statement_numbers s ≡ true →
           (W.statement number_at cats own number s w).lines ≡ []
 
+      -- in a body whose numbers have 64 bits nothing is found
       abbrev BodySized : List (Statement Name) → Type 0
       BodySized ss = (w : Scope) → body_numbers ss ≡ true →
           (W.body number_at cats own number ss w).lines ≡ []
@@ -122,11 +121,16 @@ module _ (cats : List (Cat Name)) where
           no-lines (W.statement number_at cats own number s w).lines _ (all.0 w parts.0)
           (body-by ss all.1 (W.statement number_at cats own number s w).scope parts.1)
 
+      -- statements inside a statement are as a body
+      turn-sized : (ss : List (Statement Name)) → BodySized ss → (w : Scope) → body_numbers ss ≡ true →
+          (W.in_turn (each (W.statement number_at cats own number) ss) w).lines ≡ []
+      turn-sized ss sized w h =
+          ap (λ (x : Walked). x.lines) (walks-each number_at cats own number ss w) ∙ sized w h
+
       -- a choice by its bodies
       if-sized : (cond : Expr Name) (holds fails : List (Statement Name)) → BodySized holds →
           BodySized fails → StatementSized (roll-Statement Name (S.If cond holds fails))
       if-sized cond holds fails on_holds on_fails w h =
-          let s : Statement Name = roll-Statement Name (S.If cond holds fails) in
           let numbers : (has_numbers cond && (body_numbers holds && body_numbers fails)) ≡ true =
           ap (λ t. has_numbers cond && (body_numbers holds && t)) (sym (each-numbers fails))
           ∙ (ap (λ t. has_numbers cond && (t && all_true (each statement_numbers fails)))
@@ -134,25 +138,23 @@ module _ (cats : List (Cat Name)) where
           ∙ (sym (statement-roll (S.If cond holds fails)) ∙ h)) in
           let parts = both (has_numbers cond) (body_numbers holds && body_numbers fails) numbers in
           let bodies = both (body_numbers holds) (body_numbers fails) parts.1 in
-          let first : Walked = W.body number_at cats own number holds w in
-          ap (λ (x : Walked). x.lines)
-          (walk-If number_at cats own number s w cond holds fails (rolls-If cond holds fails))
+          let first : Walked = W.in_turn (each (W.statement number_at cats own number) holds) w in
+          ap (λ (x : Walked). x.lines) (walk-roll number_at cats own number (S.If cond holds fails) w)
           ∙ no-lines (number_at (Value own w.visible (Some K.Bool) cond)) _ (sized-found cond parts.0)
-          (no-lines first.lines _ (on_holds w bodies.0) (on_fails (behind w first.scope) bodies.1))
+          (no-lines first.lines _ (turn-sized holds on_holds w bodies.0)
+          (turn-sized fails on_fails (behind w first.scope) bodies.1))
 
       -- and a loop by its body
       while-sized : (cond : Expr Name) (turn : List (Statement Name)) → BodySized turn →
           StatementSized (roll-Statement Name (S.While cond turn))
       while-sized cond turn on_turn w h =
-          let s : Statement Name = roll-Statement Name (S.While cond turn) in
           let numbers : (has_numbers cond && body_numbers turn) ≡ true =
           ap (λ t. has_numbers cond && t) (sym (each-numbers turn))
           ∙ (sym (statement-roll (S.While cond turn)) ∙ h) in
           let parts = both (has_numbers cond) (body_numbers turn) numbers in
-          ap (λ (x : Walked). x.lines)
-          (walk-While number_at cats own number s w cond turn (rolls-While cond turn))
+          ap (λ (x : Walked). x.lines) (walk-roll number_at cats own number (S.While cond turn) w)
           ∙ no-lines (number_at (Value own w.visible (Some K.Bool) cond)) _ (sized-found cond parts.0)
-          (on_turn w parts.1)
+          (turn-sized turn on_turn w parts.1)
 
       -- the statements inside a statement, for which it holds already
       each-sized : (ys : List ((s : Statement Name) × StatementSized s)) →
@@ -167,19 +169,13 @@ module _ (cats : List (Cat Name)) where
           StatementSized (roll-Statement Name
           (map-Statement Name ((s : Statement Name) × StatementSized s) (Statement Name) (λ y. y.0) y))
       step-sized (S.Let name kind e) w h =
-          ap (λ (x : Walked). x.lines)
-          (walk-Let number_at cats own number (roll-Statement Name (S.Let name kind e)) w name kind e
-          (rolls-Let name kind e))
+          ap (λ (x : Walked). x.lines) (walk-roll number_at cats own number (S.Let name kind e) w)
           ∙ sized-found e (sym (statement-roll (S.Let name kind e)) ∙ h)
       step-sized (S.Assign name e) w h =
-          ap (λ (x : Walked). x.lines)
-          (walk-Assign number_at cats own number (roll-Statement Name (S.Assign name e)) w name e
-          (rolls-Assign name e))
+          ap (λ (x : Walked). x.lines) (walk-roll number_at cats own number (S.Assign name e) w)
           ∙ sized-found e (sym (statement-roll (S.Assign name e)) ∙ h)
       step-sized (S.Call bind c) w h =
-          ap (λ (x : Walked). x.lines)
-          (walk-Call number_at cats own number (roll-Statement Name (S.Call bind c)) w bind c
-          (rolls-Call bind c))
+          ap (λ (x : Walked). x.lines) (walk-roll number_at cats own number (S.Call bind c) w)
           ∙ no-lines (W.taken number_at cats own w.visible bind c) _ (taken-sized w.visible bind c)
           (call-sized w.visible c (sym (statement-roll (S.Call bind c)) ∙ h))
       step-sized (S.If cond holds fails) w h = if-sized cond _ _ (body-by _ (each-sized holds))
@@ -218,12 +214,12 @@ module _ (cats : List (Cat Name)) where
           let here = both (has_numbers a.cond && (pre_numbers a.pre && body_numbers a.body))
           (alternative_numbers alts) h in
           let parts = both (has_numbers a.cond) (pre_numbers a.pre && body_numbers a.body) here.0 in
-          let behind_cond = both (pre_numbers a.pre) (body_numbers a.body) parts.1 in
+          let after_cond = both (pre_numbers a.pre) (body_numbers a.body) parts.1 in
           let early : Walked = W.early number_at cats own number a.pre w in
           no-lines (W.alternative number_at cats own number n a w).lines _
           (no-lines (W.head number_at cats own number w.visible n a) _ (sized-found a.cond parts.0)
-          (no-lines early.lines _ (early-sized a.pre w behind_cond.0)
-          (body-sized a.body early.scope behind_cond.1)))
+          (no-lines early.lines _ (early-sized a.pre w after_cond.0)
+          (body-sized a.body early.scope after_cond.1)))
           (alternatives-sized (n + 1) alts (W.alternative number_at cats own number n a w).scope here.1)
 
       -- what a procedure does

@@ -14,7 +14,6 @@ use Rattle.seuss_program.specs.declared.tree.Proc.{Proc}
 use Rattle.seuss_program.specs.declared.tree.Cat.{Cat}
 use Rattle.seuss_program.specs.declared.tree.BoxDecl.{BoxDecl}
 use Rattle.seuss_program.specs.declared.tree.Tree.{Tree}
-use Rattle.seuss_program.specs.declared.program.BoxInfo.{BoxInfo}
 use Rattle.seuss_program.specs.declared.program.Program.{Program}
 use Rattle.box_types.specs.declared.scopes.Scope.{Scope}
 use Rattle.box_types.specs.Scopes as Sc
@@ -28,7 +27,7 @@ use Rattle.call_order.specs.Calls.{total_calls}
 use Rattle.call_order.specs.Firsts.{first_of}
 use Rattle.call_order.specs.Cycles.{given_of, IsFirstCyclic, HasNoCycle, GivesBoxes}
 use Rattle.call_order.specs.Levels.{IsLevelled}
-use Rattle.call_order.specs.Answers.{levelled, line_of, Levels, Orders}
+use Rattle.call_order.specs.Answers.{line_of, Levels, Orders}
 use Rattle.call_order.specs.declared.refusal.OrderRefusal.{OrderRefusal}
 use Rattle.call_order.specs.declared.refusal.OrderRefusal.TheVariants as R
 
@@ -45,7 +44,7 @@ find-map {X} {Y} f test (x ∷ xs) = go (test (f x)) (find-map f test xs)
     go false h = h
 
 module _ (cats : List (Cat Name)) where
-  -- the procedure that a call names has the form of the one that it stands for
+  -- a procedure with numbers is total where the one with names is
   form-total : (own : Cat Name) (q : Proc Name) → is_total (N.procedure cats own q).form ≡ is_total q.form
   form-total own q = by_form q.form (Sc.with_result q (N.with_params q.params (Sc.at_head q [])))
     where
@@ -54,6 +53,7 @@ module _ (cats : List (Cat Name)) where
       by_form (F.Partial alts) s = refl
       by_form (F.Action alts) s = refl
 
+  -- a procedure with numbers is partial where the one with names is
   form-partial : (own : Cat Name) (q : Proc Name) →
       is_partial (N.procedure cats own q).form ≡ is_partial q.form
   form-partial own q = by_form q.form (Sc.with_result q (N.with_params q.params (Sc.at_head q [])))
@@ -65,11 +65,13 @@ module _ (cats : List (Cat Name)) where
 
   module _ (form : Form Ref → Bool) (form' : Form Name → Bool)
       (same : (own : Cat Name) (q : Proc Name) → form (N.procedure cats own q).form ≡ form' q.form) where
+    -- a procedure is of the form where the one that it stands for is
     line-same : (own : Cat Name) (q : Option (Proc Name)) (name : Name) →
         line_where form (option_map (N.procedure cats own) q) name ≡ line_where form' q name
     line-same own None name = refl
     line-same own (Some q) name = ap (λ (b : Bool). if b then name.line ∷ [] else []) (same own q)
 
+    -- the same lines are found in a cat
     in-cat : (c : Option (Cat Name)) (name : Name) →
         line_where form (option_and_then (procedure_in name) (option_map (N.cat cats) c)) name
         ≡ line_where form' (option_and_then (procedure_in name) c) name
@@ -79,6 +81,7 @@ module _ (cats : List (Cat Name)) where
         (find-map (N.procedure cats c) (λ (q : Proc Ref). Sc.same q.name name) c.procs)
         ∙ line-same c (find (λ (q : Proc Name). Sc.same q.name name) c.procs) name
 
+    -- the same lines are found in the cat of a given box
     in-given : (g : Option (Given Name)) (name : Name) →
         line_where form (option_and_then (procedure_of (map (N.cat cats) cats) name) g) name
         ≡ line_where form' (option_and_then (procedure_of cats name) g) name
@@ -88,21 +91,24 @@ module _ (cats : List (Cat Name)) where
         (find-map (N.cat cats) (λ (c : Cat Ref). Sc.same c.name g.cat) cats)
         ∙ in-cat (find (λ (c : Cat Name). Sc.same c.name g.cat) cats) name
 
+    -- the same lines are found at a call
     lines-same : (given : List (Given Name)) (c : Call Name) →
         lines_of (map (N.cat cats) cats) given form c ≡ lines_of cats given form' c
     lines-same given c = in-given (find (λ (g : Given Name). Sc.same g.name c.target) given) c.method
 
+    -- the same lines are found in all cats
     cats-same : (inside : Inside) (owns : List (Cat Name)) →
         in_cats (map (N.cat cats) cats) inside form owns ≡ in_cats cats inside form' owns
     cats-same inside owns = λ i. flat_map
         (λ (own : Cat Name). in_procedures inside (λ c. lines-same own.given c i) own.procs) owns
 
--- by names and by numbers the same calls are of a wrong form
+-- by names and by numbers the same calls in bodies are partial
 pub partial_same : (tree : Tree) → in_cats (named tree).cats in_bodies is_partial tree.cats
     ≡ partial_calls tree
 partial_same tree = cats-same (with_built_ins tree).cats is_partial is_partial
     (form-partial (with_built_ins tree).cats) in_bodies tree.cats
 
+-- by names and by numbers the same preprocedures are total
 pub total_same : (tree : Tree) → in_cats (named tree).cats in_pres is_total tree.cats ≡ total_calls tree
 total_same tree = cats-same (with_built_ins tree).cats is_total is_total
     (form-total (with_built_ins tree).cats) in_pres tree.cats
@@ -116,9 +122,10 @@ position-there test n (x ∷ xs) k h = place (test x) (position_from test (n + 1
   where
     place : (t : Bool) (o : Option ℕ) → (if t then Some n else o) ≡ Some k →
         (o ≡ Some k → k < n + 1 + length xs) → k < n + length (x ∷ xs)
-    place true o h behind = let e : n ≡ k = cc in omega (arith, e)
-    place false o h behind = let r : k < n + 1 + length xs = behind h in omega (arith, r)
+    place true o h after = let e : n ≡ k = cc in omega (arith, e)
+    place false o h after = let r : k < n + 1 + length xs = after h in omega (arith, r)
 
+-- a place that is there, or the first one, is there
 there-or-first : (boxes : List BoxDecl) (o : Option ℕ) → ((k : ℕ) → o ≡ Some k → k < length boxes) →
     0 < length boxes → unwrap_or o 0 < length boxes
 there-or-first boxes None h some = some
@@ -132,8 +139,7 @@ orders_by (Ok q) p tree is partials totals h = record {
   partial_calls = partials;
   total_calls = totals;
   cycles = subst (λ (x : Program). HasNoCycle x.boxes) is h.0;
-  program = h.1 ∙ ap levelled is;
-  levels = subst (λ (x : Program). IsLevelled x q) is h.2;
+  levels = subst (λ (x : Program). IsLevelled x q) is h.1;
 }
 orders_by (Err (R.Cycle line first)) p tree is partials totals h = record {
   partial_calls = partials;
@@ -152,12 +158,14 @@ number-there boxes name some =
     (λ k h. let r : k < 0 + length boxes = position-there (λ (b : BoxDecl). Sc.same b.name name) 0 boxes k h
     in omega (arith, r)) some
 
+-- numbers of names are below a bound
 mapped-there : (f : Name → ℕ) (n : ℕ) → ((name : Name) → f name < n) → (names : List Name) (g : ℕ) →
     Contains (map f names) g → g < n
 mapped-there f n h [] g c = absurd (omega (arith, c.1))
 mapped-there f n h (x ∷ xs) g (zero, below, is) = subst (λ k. k < n) is (h x)
 mapped-there f n h (x ∷ xs) g (suc k, below, is) = mapped-there f n h xs g (k, omega (arith, below), is)
 
+-- the boxes that are given by their names are there
 infos-there : (cats : List (Cat Name)) (all bs : List BoxDecl) (n : ℕ) → length bs ≤ n →
     ((name : Name) → 0 < n → N.box_number all name < n) → (box g : ℕ) →
     Contains (given_of (map (N.box_info cats all) bs) box) g → g < n
@@ -167,6 +175,7 @@ infos-there cats all (b ∷ bs) n few h zero g c = mapped-there (N.box_number al
 infos-there cats all (b ∷ bs) n few h (suc box) g c =
     infos-there cats all bs n (omega (arith, few)) h box g c
 
+-- there is a box for each declaration
 infos-length : (cats : List (Cat Name)) (all bs : List BoxDecl) →
     length (map (N.box_info cats all) bs) ≡ length bs
 infos-length cats all [] = refl
@@ -190,6 +199,7 @@ begins_by lines (l ∷ ls) line found e h is = let same : l ≡ line = some-same
     some-same : {x y : ℕ} → Some x ≡ Some y → x ≡ y
     some-same e = cc
 
+-- where nothing is found there are no lines
 pub none_by : (lines same : List ℕ) (found : Option ℕ) → same ≡ lines → found ≡ first_of same →
     found ≡ None → lines ≡ []
 none_by lines [] found e h is = sym e

@@ -1,6 +1,5 @@
 -- What is answered on a text whose names are known: its program, or why it has none.
-use Rattle.std.specs.Prelude.{◌≡◌, ℕ, ◌+◌, List, [], length, slice_get, Option, Some, option_map, Result}
-use Rattle.std.specs.Prelude.{Ok, Err}
+use Rattle.std.specs.Prelude.{◌≡◌, ℕ, List, [], slice_get, Option, Some, option_map, Result, Ok, Err}
 use Rattle.seuss_program.specs.declared.tree.Tree.{Tree}
 use Rattle.seuss_program.specs.declared.program.BoxInfo.{BoxInfo}
 use Rattle.seuss_program.specs.declared.program.Program.{Program}
@@ -8,17 +7,9 @@ use Rattle.box_types.specs.Answers.{BeginsWith}
 use Rattle.box_types.specs.Namings.{named}
 use Rattle.call_order.specs.Calls.{partial_calls, total_calls}
 use Rattle.call_order.specs.Cycles.{IsFirstCyclic, HasNoCycle}
-use Rattle.call_order.specs.Levels.{IsLevelled, set_levels, levels_after}
+use Rattle.call_order.specs.Levels.{IsLevelled}
 use Rattle.call_order.specs.declared.refusal.OrderRefusal.{OrderRefusal}
 use Rattle.call_order.specs.declared.refusal.OrderRefusal.TheVariants as R
-
--- a program with the levels of its boxes
-abbrev pub levelled : Program → Program
-levelled p = record p { boxes = set_levels p.boxes (levels_after p.boxes (length p.boxes + 1)) }
-
--- the program of a text, with the levels of its boxes
-abbrev pub program_of : Tree → Program
-program_of tree = levelled (named tree)
 
 -- the line on which a box is declared
 abbrev pub line_of : List BoxInfo → ℕ → Option ℕ
@@ -26,7 +17,7 @@ line_of boxes box = option_map (λ (b : BoxInfo). b.name.line) (slice_get boxes 
 
 -- no box is in a cycle, or this is the first that is, and stands on this line; want of memory is free
 abbrev pub Levels : Result Program OrderRefusal → Program → Type 0
-Levels (Ok p) named = HasNoCycle named.boxes × (p ≡ levelled named) × IsLevelled named p
+Levels (Ok p) named = HasNoCycle named.boxes × IsLevelled named p
 Levels (Err (R.Cycle line first)) named = IsFirstCyclic named.boxes first
     × (line_of named.boxes first ≡ Some line)
 Levels (Err (R.PartialCall line)) named = ⊥
@@ -39,7 +30,6 @@ pub record IsOrdered (p : Program) (tree : Tree) : Type 0 where
   pub partial_calls : partial_calls tree ≡ []
   pub total_calls : total_calls tree ≡ []
   pub cycles : HasNoCycle (named tree).boxes
-  pub program : p ≡ program_of tree
   pub levels : IsLevelled (named tree) p
 
 -- the first box that is given to itself is declared on this line

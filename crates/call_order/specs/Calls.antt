@@ -33,25 +33,28 @@ module _ {N : Type 0} where
   called cats given c = option_and_then (procedure_of cats c.method)
       (named (λ (g : Given Name). g.name) given c.target)
 
+  -- whether a procedure is a total method
   abbrev pub is_total : Form N → Bool
   is_total (F.Total ss) = true
   is_total (F.Partial alts) = false
   is_total (F.Action alts) = false
 
+  -- whether a procedure is a partial method
   abbrev pub is_partial : Form N → Bool
   is_partial (F.Total ss) = false
   is_partial (F.Partial alts) = true
   is_partial (F.Action alts) = false
 
-  -- the line of a call's method, where the method is of this form
+  -- the line of a name, where the procedure that it stands for is of this form
   abbrev pub line_where : (Form N → Bool) → Option (Proc N) → Name → List ℕ
   line_where form None name = []
   line_where form (Some q) name = if form q.form then name.line ∷ [] else []
 
+  -- the line of a call, where the method that it names is of this form
   abbrev pub lines_of : List (Cat N) → List (Given Name) → (Form N → Bool) → Call Name → List ℕ
   lines_of cats given form c = line_where form (called cats given c) c.method
 
--- what is found at each call of a statement, in the order of the text
+-- what is found at the calls of a statement, by what is found in those inside it
 abbrev pub calls_step : (Call Name → List ℕ) → Statement-F Name (List ℕ) → List ℕ
 calls_step at (S.Let name kind e) = []
 calls_step at (S.Assign name e) = []
@@ -59,9 +62,11 @@ calls_step at (S.Call bind c) = at c
 calls_step at (S.If cond holds fails) = flat_map (λ lines. lines) holds ++ flat_map (λ lines. lines) fails
 calls_step at (S.While cond turn) = flat_map (λ lines. lines) turn
 
+-- what is found at the calls of a statement, in the order of the text
 unfoldable pub in_statement : (Call Name → List ℕ) → Statement Name → List ℕ
 in_statement at s = fold-Statement Name (List ℕ) (calls_step at) s
 
+-- what is found at the calls of a body
 abbrev pub in_body : (Call Name → List ℕ) → List (Statement Name) → List ℕ
 in_body at ss = flat_map (in_statement at) ss
 
@@ -71,23 +76,26 @@ in_bodies at (F.Total ss) = in_body at ss
 in_bodies at (F.Partial alts) = flat_map (λ (a : Alternative Name). in_body at a.body) alts
 in_bodies at (F.Action alts) = flat_map (λ (a : Alternative Name). in_body at a.body) alts
 
--- what is found at the preprocedures of a procedure
+-- what is found at a preprocedure, where there is one
 abbrev pub in_pre : (Call Name → List ℕ) → Option (Pre Name) → List ℕ
 in_pre at None = []
 in_pre at (Some pre) = at pre.call
 
+-- what is found at the preprocedures of a procedure
 abbrev pub in_pres : (Call Name → List ℕ) → Form Name → List ℕ
 in_pres at (F.Total ss) = []
 in_pres at (F.Partial alts) = flat_map (λ (a : Alternative Name). in_pre at a.pre) alts
 in_pres at (F.Action alts) = flat_map (λ (a : Alternative Name). in_pre at a.pre) alts
 
--- what is found in procedures, and in cats, by what is looked at in a procedure and by the form that fails
+-- what is looked at in a procedure: the calls in its bodies, or its preprocedures
 abbrev pub Inside : Type 0
 Inside = (Call Name → List ℕ) → Form Name → List ℕ
 
+-- what is found in procedures, by what is looked at in each
 abbrev pub in_procedures : Inside → (Call Name → List ℕ) → List (Proc Name) → List ℕ
 in_procedures inside at procs = flat_map (λ (q : Proc Name). inside at q.form) procs
 
+-- the lines of calls in cats whose method is of the form that fails, by what is looked at in a procedure
 abbrev pub in_cats : {N : Type 0} → List (Cat N) → Inside → (Form N → Bool) → List (Cat Name) → List ℕ
 in_cats cats inside form owns = flat_map
     (λ (own : Cat Name). in_procedures inside (lines_of cats own.given form) own.procs) owns

@@ -2,11 +2,12 @@
 use Rattle.std.specs.Prelude.{ℕ, zero, suc, ◌<◌, length, List, [], slice_get, Option, None, Some, Contains}
 use Rattle.seuss_program.specs.declared.program.BoxInfo.{BoxInfo}
 
--- the numbers of the boxes that a box is given
+-- the numbers of the boxes that a box is given, where it is there
 abbrev pub given_to : Option BoxInfo → List ℕ
 given_to None = []
 given_to (Some b) = b.given
 
+-- the numbers of the boxes that a box is given, by its own number
 abbrev pub given_of : List BoxInfo → ℕ → List ℕ
 given_of boxes box = given_to (slice_get boxes box)
 

@@ -1,3 +1,5 @@
+//! Which calls in a text go to a partial or to a total method.
+
 ghost use Rattle.std.specs.Prelude.{◌≡◌, MatchOption, option_map, slice_get};
 ghost use Rattle.std.specs.Option.{option_copied};
 ghost use Rattle.std.specs.List.{flat_map};

@@ -1,3 +1,5 @@
+//! Which boxes are given to themselves, through any number of boxes.
+
 ghost use Rattle.std.specs.Prelude.{◌≡◌, ◌<◌, ◌≤◌, length, All, IfOk, IfSome, MatchOption};
 ghost use Rattle.call_order.specs.Cycles.{given_of, GivesBoxes, IsFirstCyclic, HasNoCycle};
 ghost use Rattle.call_order.specs.Marks.{no_marks, marked_with, spread_from, spread_below, spread_times};

@@ -1,7 +1,7 @@
-ghost use Rattle.std.specs.Prelude.{◌≡◌, ◌<◌, ◌≤◌, length, map, IfOk, All};
-ghost use Rattle.seuss_program.specs.Keeping.{above};
-ghost use Rattle.seuss_program.specs.Programs.{level_of};
-ghost use Rattle.call_order.specs.Levels.{level_at, leveled_at, set_levels};
+//! Boxes with levels.
+
+ghost use Rattle.std.specs.Prelude.{◌≡◌, length, IfOk};
+ghost use Rattle.call_order.specs.LevelLists.{levelled_at, set_levels};
 
 use seuss_base::{List, Memory};
 use seuss_program::BoxInfo;
@@ -24,7 +24,7 @@ pub(crate) fn with_levels(
 }
 
 fn with_level(info: BoxInfo, level: u32) -> BoxInfo
-    ensures { result ≡ leveled_at info level }
+    ensures { result ≡ levelled_at info level }
 {
     let BoxInfo {
         name,

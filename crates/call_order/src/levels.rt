@@ -1,8 +1,9 @@
-ghost use Rattle.std.specs.Prelude.{◌≡◌, ◌+◌, ◌<◌, ◌≤◌, ◌^◌, length, map, slice_index_or, All, IfOk};
-ghost use Rattle.seuss_program.specs.Keeping.{above};
+//! The level of each box.
+
+ghost use Rattle.std.specs.Prelude.{◌≡◌, ◌<◌, ◌≤◌, length, All, IfOk};
 ghost use Rattle.call_order.specs.Cycles.{GivesBoxes, HasNoCycle};
 ghost use Rattle.call_order.specs.Marks.{KnowsAllGiven};
-ghost use Rattle.call_order.specs.Levels.{AreLevels, level_at, level_above, next_levels, levels_after};
+ghost use Rattle.call_order.specs.LevelLists.{AreLevels, level_at, level_above, next_levels};
 
 use seuss_base::{List, Memory};
 use seuss_program::BoxInfo;
@@ -19,8 +20,7 @@ pub(crate) fn levels(
     requires there { GivesBoxes boxes.now }
     requires known { KnowsAllGiven boxes.now rows.now }
     requires acyclic { HasNoCycle boxes.now }
-    ensures value { IfOk result (λ levels. levels ≡ levels_after boxes.now (length boxes.now + 1)) }
-    ensures right { IfOk result (AreLevels boxes.now) }
+    ensures { IfOk result (AreLevels boxes.now) }
 {
     let mut levels = List::new(alloc);
     for _ in 0..boxes.len() + 1 {

@@ -1,3 +1,5 @@
+//! The checks of calls and of boxes, one after the other, and the program with its levels.
+
 ghost use Rattle.std.specs.Prelude.{◌≡◌, ◌<◌, ◌≤◌, length, map, Some, IfOk};
 ghost use Rattle.box_types.specs.Namings.{named};
 ghost use Rattle.call_order.specs.Answers.{Orders, Levels, line_of};

@@ -1,3 +1,5 @@
+//! Why a text has no order of calls.
+
 ghost use Rattle.std.specs.Prelude.{◌≡◌};
 ghost use Rattle.call_order.specs.declared.refusal.OrderRefusal.TheVariants.{Memory as OutOfMemory};
 

@@ -48,6 +48,7 @@ statement_step (S.If cond holds fails) places =
     branch (told cond places.vars places.slots) (in_turn holds) (in_turn fails) places
 statement_step (S.While cond turn) places = Err W.MayTrap
 
+-- what a statement leaves
 unfoldable pub statement : Statement Ref → Leaves
 statement s = fold-Statement Ref Leaves statement_step s
 

@@ -40,6 +40,7 @@ pub record LooseDifference (m n : Proc Ref) (cases : List Case) (r : Refutation)
   pub first : r.first ≡ values_at difference.one.first (point_of difference.at)
   pub second : r.second ≡ values_at difference.one.second (point_of difference.at)
 
+-- a refutation that was found is a difference where the first method isn't plainly rejected
 abbrev pub IsFound : Proc Ref → Proc Ref → List Case → Option Refutation → Type 0
 IsFound m n cases None = Unit {0}
 IsFound m n cases (Some r) = LooseDifference m n cases r

@@ -72,6 +72,8 @@ module _ (q : Proc Ref) where
       and_then (and_then (told a.cond places.vars places.slots) truth_in)
       (λ b. if b then chosen a a.pre places else choice alts places)
 
+  -- what a procedure comes to from its entry: a total one by its body, any other by the alternative that
+  -- is taken
   abbrev pub performed : Form Ref → Places → Result Foreseen Reason
   performed (F.Total ss) places = body_ends true (body ss places)
   performed (F.Partial alts) places = choice alts places
@@ -81,17 +83,19 @@ module _ (q : Proc Ref) where
 abbrev pub foreseen : Proc Ref → List Symbol → List Symbol → Result Foreseen Reason
 foreseen q args vars = performed q q.form (record { vars = vars; slots = first_slots q args })
 
--- the outcome, the result at a point and whether it is a plain rejection, by how a method ends
+-- the outcome of a method, by how it ends
 abbrev pub outcome_by : Ending → Outcome
 outcome_by (E.Accepted found) = O.Accepted
 outcome_by E.Rejected = O.Rejected
 outcome_by E.RejectedPlainly = O.Rejected
 
+-- the result of a method at a point, by how it ends
 abbrev pub result_at : Ending → Point → Option ℤ
 result_at (E.Accepted found) p = option_map (λ (form : NumForm). number form p) found
 result_at E.Rejected p = None
 result_at E.RejectedPlainly p = None
 
+-- whether a method is plainly rejected, by how it ends
 abbrev pub is_plain : Ending → Bool
 is_plain (E.Accepted found) = false
 is_plain E.Rejected = false

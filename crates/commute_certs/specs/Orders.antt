@@ -15,20 +15,21 @@ use Rattle.commute_certs.specs.declared.orders.Orders.{Orders}
 use Rattle.commute_certs.specs.Terms.{and_then}
 use Rattle.commute_certs.specs.Foreseen.{foreseen, outcome_by, result_at, is_plain}
 
--- how both methods end in both orders: the first one and the second one behind it; the second one and the
--- first one behind it
+-- how both methods end in both orders: the first one and the second one after it; the second one and the
+-- first one after it
 abbrev pub orders : Proc Ref → Proc Ref → Case → Result Orders Reason
 orders m n c =
     and_then (foreseen m c.first c.vars) (λ f. and_then (foreseen n c.second f.vars) (λ g.
     and_then (foreseen n c.second c.vars) (λ h. and_then (foreseen m c.first h.vars) (λ k.
     Ok (record { first = f; second_behind = g; second = h; first_behind = k })))))
 
--- how a method ends, at a point
+-- how a run ends: its outcome, its result, and whether it is plainly rejected
 pub record End : Type 0 where
   pub outcome : Outcome
   pub result : Option ℤ
   pub plain : Bool
 
+-- how a method ends at a point
 abbrev pub end_at : Ending → Point → End
 end_at ending p = record
     { outcome = outcome_by ending; result = result_at ending p; plain = is_plain ending }

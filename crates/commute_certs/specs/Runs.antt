@@ -27,13 +27,15 @@ one_box vars = record { boxes = record { values = vars } ∷ [] }
 abbrev pub attempted : Proc Ref → List Value → List Value → Called
 attempted q args vars = attempt_of nothing (attempt nothing 0) 0 (Some q) args (one_box vars) 0
 
--- what a run comes to: its outcome, its result, whether it was plainly rejected, and the variables after it
+-- what a run comes to: its outcome, its result, whether it was plainly rejected, and the variables after
+-- it
 pub record Alone : Type 0 where
   pub outcome : Outcome
   pub result : Option ℤ
   pub plain : Bool
   pub vars : List Value
 
+-- the run of a procedure with these arguments on these variables alone
 abbrev pub alone : Proc Ref → List Value → List Value → Alone
 alone q args vars = record {
   outcome = (attempted q args vars).outcome;

@@ -32,20 +32,22 @@ use Rattle.commute_certs.specs.declared.part.Part.TheVariants as P
 abbrev pub Told : Type 0
 Told = Result Symbol Reason
 
--- the number, the sequence and the truth that a symbol is; a symbol of another kind stands for 0, for the
--- empty sequence or for false, as a value does
+-- the number that a symbol is; a symbol of another kind stands for 0, as a value does
 abbrev pub number_in : Symbol → NumForm
 number_in (Y.Number form) = form
 number_in (Y.Truth b) = literal (pos 0)
 number_in (Y.Untold v) = literal (pos 0)
 number_in (Y.Sequence shape) = literal (pos 0)
 
+-- the sequence that a symbol is; a symbol of another kind stands for the empty one, as a value does
 abbrev pub shape_in : Symbol → Shape
 shape_in (Y.Number form) = Q.Exact []
 shape_in (Y.Truth b) = Q.Exact []
 shape_in (Y.Untold v) = Q.Exact []
 shape_in (Y.Sequence shape) = shape
 
+-- the truth that a symbol is, where it is told; a symbol of another kind stands for false, as a value
+-- does
 abbrev pub truth_in : Symbol → Result Bool Reason
 truth_in (Y.Number form) = Ok false
 truth_in (Y.Truth b) = Ok b
@@ -80,11 +82,12 @@ refused X.MayBeEmpty = W.MayTrap
 refused X.NotShown = W.NotShown
 refused X.Memory = W.MayTrap
 
--- what is taken from a sequence, as a part
+-- a number that is taken from a sequence, as a part
 abbrev pub number_part : Result NumForm FormRefusal → Result Part Reason
 number_part (Ok form) = Ok (P.Other (Y.Number form))
 number_part (Err refusal) = Err (refused refusal)
 
+-- a sequence that is taken from a sequence, as a part
 abbrev pub shape_part : Result Shape FormRefusal → Result Part Reason
 shape_part (Ok shape) = Ok (P.Other (Y.Sequence shape))
 shape_part (Err refusal) = Err (refused refusal)
@@ -206,14 +209,14 @@ symbols_compared O.Remainder a b = Err W.UndecidedCondition
 symbols_compared O.At a b = Err W.UndecidedCondition
 symbols_compared O.Add a b = Err W.UndecidedCondition
 
--- a comparison of a part with a literal behind it
+-- a comparison of a part with a literal after it
 abbrev pub before_literal : Op → Part → ℤ → Result Bool Reason
 before_literal op (P.Digits x) z = Ok (compared op x z)
 before_literal op (P.Minus x) z = Ok (compared op x z)
 before_literal op (P.Length shape) z = length_compared op shape z
 before_literal op (P.Other s) z = symbols_compared op s (Y.Number (literal z))
 
--- a comparison of a part with a length behind it
+-- a comparison of a part with a length after it
 abbrev pub before_length : Op → Part → Shape → Result Bool Reason
 before_length op (P.Digits x) shape = length_compared (turned op) shape x
 before_length op (P.Minus x) shape = length_compared (turned op) shape x

@@ -1,3 +1,5 @@
+//! What statements leave in a case.
+
 ghost use Rattle.std.specs.Prelude.{◌≡◌, slice_set};
 ghost use Rattle.commute_certs.specs.Terms.{told, and_then, truth_in as truth_by};
 ghost use Rattle.commute_certs.specs.Bodies.{put as put_by, put_told, body as body_by};

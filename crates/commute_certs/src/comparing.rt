@@ -1,3 +1,5 @@
+//! Comparisons that a case decides.
+
 ghost use Rattle.std.specs.Prelude.{◌≡◌, Ok, Err, if◌then◌else◌};
 ghost use Rattle.commute_certs.specs.declared.why.Reason.TheVariants.{UndecidedCondition};
 ghost use Rattle.commute_certs.specs.Terms.{compared as compared_by, are_alike as alike_by};

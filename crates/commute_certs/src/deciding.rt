@@ -1,3 +1,5 @@
+//! The decision of a certificate, case by case, with a state that refutes it.
+
 ghost use Rattle.std.specs.Prelude.{◌≡◌, ◌++◌, ◌∷◌, [], List as Items, Some, None, Ok, true, false, IsTrue};
 ghost use Rattle.std.specs.Prelude.{IfOk};
 ghost use Rattle.seuss_program.specs.declared.tree.Ref.{Ref as RefOf};

@@ -1,3 +1,5 @@
+//! What a single method comes to in a case, from its entry to its end.
+
 ghost use Rattle.std.specs.Prelude.{◌≡◌, pos, slice_index_or, IfOk};
 ghost use Rattle.shape_terms.specs.Numbers.{literal};
 ghost use Rattle.shape_terms.specs.declared.symbol.Symbol.TheVariants.{Number};

@@ -1,3 +1,5 @@
+//! What a single method comes to in a case.
+
 use seuss_base::List;
 use shape_terms::{NumForm, Symbol};
 

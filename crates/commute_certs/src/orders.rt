@@ -1,3 +1,5 @@
+//! What two methods come to in a case, in both orders, and where these differ.
+
 ghost use Rattle.std.specs.Prelude.{◌≡◌};
 ghost use Rattle.shape_terms.specs.Points.{TellsApart};
 ghost use Rattle.shape_terms.specs.Symbols.{values_at};

@@ -1,3 +1,5 @@
+//! What a part of an expression is in a case.
+
 use shape_terms::{SeqForm, Symbol};
 
 /// What a part of an expression is in a case.

@@ -1,3 +1,5 @@
+//! Parts of expressions as symbols, numbers, sequences and bools.
+
 ghost use Rattle.std.specs.Prelude.{◌≡◌, IfOk, Result, Ok};
 ghost use Rattle.shape_terms.specs.declared.num_form.NumForm.{NumForm as Number};
 ghost use Rattle.shape_terms.specs.declared.shape.Shape.{Shape};

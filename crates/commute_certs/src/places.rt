@@ -1,3 +1,5 @@
+//! What variables and slots are in a case.
+
 use seuss_base::List;
 use shape_terms::Symbol;
 

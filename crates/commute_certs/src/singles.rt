@@ -1,3 +1,5 @@
+//! Whether a method is single: without preprocedures, calls and loops.
+
 ghost use Rattle.std.specs.Prelude.{◌≡◌, ◌&&◌, is_none};
 ghost use Rattle.method_code.specs.Singles.{is_single as single_form, is_single_body, is_single_statement};
 ghost use Rattle.method_code.specs.Singles.{are_single as single_alternatives};

@@ -1,3 +1,5 @@
+//! What an expression comes to in a case.
+
 ghost use Rattle.std.specs.Prelude.{◌≡◌, Ok, neg_ℤ, ℤ, SomeIff, FitsSigned};
 ghost use Rattle.std.specs.Int.{w64};
 ghost use Rattle.commute_certs.specs.Terms.{told, part_of, decides as decides_by, combined};

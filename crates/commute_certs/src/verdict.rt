@@ -1,3 +1,5 @@
+//! Verdicts on certificates.
+
 use crate::why::Why;
 use seuss_base::{Level, List};
 use seuss_program::{Value, Vars};

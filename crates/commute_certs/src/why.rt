@@ -1,3 +1,5 @@
+//! Why a certificate is unclear, or a part isn't told.
+
 ghost use Rattle.std.specs.Prelude.{◌≡◌};
 ghost use Rattle.commute_certs.specs.declared.why.Untold.TheVariants.{Memory as OutOfMemory};
 

@@ -112,7 +112,7 @@ pub record IsClosed (p : Program) (ms : List Member) (m : Member) : Type 0 where
 
 -- A list on the way: it has procedures of an action alone, and the action; it has what the members before a
 -- place call; those from there on up to an end are of boxes of a level that falls by each round, and those
--- behind the end of lower ones.
+-- after the end of lower ones.
 pub record IsOnTheWay (p : Program) (a : ActionInfo) (ms : List Member) (start end round : ℕ) : Type 0 where
   pub sound : (at : ℕ) (m : Member) → slice_get ms at ≡ Some m →
       HasEffects p m × IsAmong p a m.box_number m.procedure m.part

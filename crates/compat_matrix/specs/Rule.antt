@@ -31,7 +31,7 @@ pub record TestsWritten (part : Part) (m n : Form Ref) : Type 0 where
   pub early : has_early m ≡ true
   pub meets : Meets (λ v. tests v m) (λ v. writes v n)
 
--- The second procedure may be late: it is in the tail, or has places behind calls.
+-- The second procedure may be late: it is in the tail, or has places after calls.
 abbrev pub MayBeLate : Part → Form Ref → Type 0
 MayBeLate part n = (part ≡ Tail) ⊎ (has_late n ≡ true)
 

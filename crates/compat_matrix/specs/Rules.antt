@@ -18,7 +18,7 @@ is_line Tail = false
 abbrev pub tests_written : Member → Member → Bool
 tests_written x y = is_line x.part && (x.effects.has_early && shares x.effects.tests y.effects.writes)
 
--- whether a procedure may be late: in the tail, or behind calls
+-- whether a procedure may be late: in the tail, or after calls
 abbrev pub may_be_late : Member → Bool
 may_be_late x = not (is_line x.part) || x.effects.has_late
 

@@ -1,3 +1,5 @@
+//! Certificates that hold, with their levels.
+
 use seuss_base::Level;
 
 /// A certificate that holds: its cat, the methods that it names, and its level.

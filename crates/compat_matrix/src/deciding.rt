@@ -1,3 +1,5 @@
+//! The certificates of a program, decided one after the other.
+
 ghost use Rattle.std.specs.Prelude.{◌≡◌, ℕ, ◌+◌, ◌≤◌, List as ListOf, length, drop, slice_get, Some, OnOk};
 ghost use Rattle.std.specs.Prelude.{IfOk};
 ghost use Rattle.std.specs.Prelude.{IfErr};

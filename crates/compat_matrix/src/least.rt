@@ -1,3 +1,5 @@
+//! The least level of the procedures of two actions.
+
 ghost use Rattle.std.specs.Prelude.{◌≡◌, [], ◌∷◌, slice_get};
 ghost use Rattle.seuss_base.specs.declared.level.Level.TheVariants.{Firm};
 ghost use Rattle.method_code.specs.Codes.{cat_number as number_of_cat};

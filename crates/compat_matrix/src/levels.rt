@@ -1,3 +1,5 @@
+//! How far each action of a program is safe beside each other one.
+
 ghost use Rattle.std.specs.Prelude.{◌≡◌, ◌+◌, ◌<◌, length, IfOk};
 ghost use Rattle.seuss_program.specs.Keeping.{Keeps};
 ghost use Rattle.method_code.specs.Codes.{compiled};

@@ -1,3 +1,5 @@
+//! A procedure of an action, with its effects.
+
 use crate::Part;
 use effect_sets::Effects;
 

@@ -1,3 +1,5 @@
+//! The procedures of an action, found from box to box downward.
+
 ghost use Rattle.std.specs.Prelude.{◌≡◌, ℕ, ◌+◌, ◌<◌, ◌≤◌, [], ◌∷◌, length, OnOk, IfOk, slice_index_or};
 ghost use Rattle.std.specs.Bool.{OnTrue};
 ghost use Rattle.seuss_program.specs.declared.program.ActionInfo.{ActionInfo};

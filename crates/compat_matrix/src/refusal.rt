@@ -1,3 +1,5 @@
+//! Why a program has no levels.
+
 ghost use Rattle.std.specs.Prelude.{◌≡◌};
 ghost use Rattle.compat_matrix.specs.declared.refusal.MatrixRefusal.TheVariants.{Memory as OutOfMemory};
 

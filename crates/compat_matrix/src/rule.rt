@@ -1,3 +1,5 @@
+//! The rule: the level of two procedures of one box, by their effects.
+
 ghost use Rattle.std.specs.Prelude.{◌≡◌};
 ghost use Rattle.compat_matrix.specs.Rules.{shares, tests_written, may_be_late, keeps_apart, ruled};
 

@@ -21,9 +21,10 @@ use Rattle.compat_scheduler.specs.Settings.{Setting, copies, beside}
 use Rattle.compat_scheduler.specs.Machines.{Machine, slot_at, slot_of, round_begun, beginning, IsRunning}
 use Rattle.compat_scheduler.specs.Starts.{Starts, lowered}
 use Rattle.compat_scheduler.specs.Finishes.{is_ended, settled, slot_finished}
-use Rattle.compat_scheduler.specs.Soundness.{IsSound}
+use Rattle.compat_scheduler.specs.Soundness.{IsSoundMachine}
 use Rattle.compat_scheduler.specs.Runs.{Event, Leads, Runs, IsRun, has_ended, kept_by, times_kept}
 use Rattle.compat_scheduler.specs.Runs.Event.{Start, Finish}
+use Rattle.compat_scheduler.proofs.SchedulerLemmas.{first_holds}
 use Rattle.compat_scheduler.proofs.Sums.{each_ended}
 use Rattle.compat_scheduler.proofs.SoundLemmas.{fresh_slots, sound-beginning}
 use Rattle.compat_scheduler.proofs.RunLemmas.{sound-leads, settled_either, slot_within}
@@ -110,8 +111,7 @@ has_ended-settled s m a some =
     (λ (h : ((list_all is_ended m.slots && not m.stopped) ≡ true) × (settled s m ≡ round_begun s
     (m.round + 1) m.starts)).
     let next : Machine = round_begun s (m.round + 1) m.starts in
-    let all : list_all is_ended m.slots ≡ true = first_holds (list_all is_ended m.slots)
-    (not m.stopped) h.0 in
+    let all : list_all is_ended m.slots ≡ true = first_holds (list_all is_ended m.slots) m.stopped h.0 in
     let within : a % copies s < copies s = mod_below a (copies s) some in
     let fresh : slot_at next.slots (a % copies s) ≡ Pending Loose = fresh_slots (copies s)
     (a % copies s) within in
@@ -129,10 +129,6 @@ has_ended-settled s m a some =
     (λ (h : ((list_all is_ended m.slots && not m.stopped) ≡ false) × (settled s m ≡ m)). ap (λ
     (k : Machine). has_ended s k a) h.1)
     (settled_either s m)
-  where
-    first_holds : (p q : Bool) → (p && q) ≡ true → p ≡ true
-    first_holds true q e = refl
-    first_holds false q e = absurd (cc)
 
 -- an attempt of this round is told by its slot
 attempt_of_slot : (a round c : ℕ) → round * c ≤ a → a < (round + 1) * c → a ≡ round * c + a % c
@@ -238,7 +234,7 @@ number-finishes s old t end Kept a running within below =
     (eqb_tells t.attempt a)
 
 -- each event keeps what ends by it
-number-leads : (s : Setting) (old : Machine) (event : Event) (new : Machine) (a : ℕ) → IsSound s old →
+number-leads : (s : Setting) (old : Machine) (event : Event) (new : Machine) (a : ℕ) → IsSoundMachine s old →
     Leads s old event new →
     (if has_ended s old a then 1 else 0) + kept_by event a ≡ (if has_ended s new a then 1 else 0)
 number-leads s old (Start t) new a sound leads =
@@ -254,7 +250,7 @@ number-leads s old (Finish t end verdict) new a sound leads =
     ∙ ap (λ (b : Bool). if b then 1 else 0) (sym settled')
 
 -- a run keeps what ends by it
-number-runs : (s : Setting) (events : List Event) (old new : Machine) (a : ℕ) → IsSound s old →
+number-runs : (s : Setting) (events : List Event) (old new : Machine) (a : ℕ) → IsSoundMachine s old →
     Runs s old events new →
     (if has_ended s old a then 1 else 0) + times_kept events a ≡ (if has_ended s new a then 1 else 0)
 number-runs s [] old new a sound run = rw run (omega arith)

@@ -12,29 +12,29 @@ use Rattle.compat_scheduler.specs.declared.ticket.FinishVerdict.TheVariants.{Voi
 use Rattle.compat_scheduler.specs.Settings.{Setting}
 use Rattle.compat_scheduler.specs.Machines.{Machine, slot_of}
 use Rattle.compat_scheduler.specs.Finishes.{verdict_on}
-use Rattle.compat_scheduler.specs.Soundness.{IsLawful, IsSound}
+use Rattle.compat_scheduler.specs.Soundness.{IsSoundSlot, IsSoundMachine}
 use Rattle.compat_scheduler.specs.Runs.{Event, Leads, Runs}
 use Rattle.compat_scheduler.specs.Runs.Event.{Start, Finish}
 use Rattle.compat_scheduler.proofs.Memberships.{contains_nothing, contains_cases}
 use Rattle.compat_scheduler.proofs.RunLemmas.{sound-leads}
 
 -- what waits waits in mode loose or firm
-pending_mode : (mode : Level) → IsLawful (Pending mode) → (mode ≡ Loose) ⊎ (mode ≡ Firm)
+pending_mode : (mode : Level) → IsSoundSlot (Pending mode) → (mode ≡ Loose) ⊎ (mode ≡ Firm)
 pending_mode Never lawful = absurd lawful
 pending_mode Loose lawful = inl refl
 pending_mode Firm lawful = inr refl
 
 -- a pass starts in mode loose or firm
-start_mode : (s : Setting) (old : Machine) (event : Event) (new : Machine) (t : Ticket) → IsSound s old →
-    Leads s old event new →
+start_mode : (s : Setting) (old : Machine) (event : Event) (new : Machine)
+    (t : Ticket) → IsSoundMachine s old → Leads s old event new →
     event ≡ Start t → (t.mode ≡ Loose) ⊎ (t.mode ≡ Firm)
 start_mode s old event new t sound leads same =
     let starts : Leads s old (Start t) new = subst (λ (e : Event). Leads s old e new) same leads in
-    pending_mode t.mode (subst IsLawful starts.next.first.may.pending (sound.lawful (slot_of s t)))
+    pending_mode t.mode (subst IsSoundSlot starts.next.first.may.pending (sound.lawful (slot_of s t)))
 
 -- in a run each pass starts in mode loose or firm
-pub start_modes : (s : Setting) (events : List Event) (old new : Machine) (t : Ticket) → IsSound s old →
-    Runs s old events new →
+pub start_modes : (s : Setting) (events : List Event) (old new : Machine) (t : Ticket) →
+    IsSoundMachine s old → Runs s old events new →
     Contains events (Start t) → (t.mode ≡ Loose) ⊎ (t.mode ≡ Firm)
 start_modes s [] old new t sound run h = absurd (contains_nothing (Start t) h)
 start_modes s (event ∷ events) old new t sound run h =
@@ -53,7 +53,7 @@ flag_of_void true (Trapped trap) e = absurd (cc)
 flag_of_void true Spent e = absurd (cc)
 
 -- a pass whose flag is down runs in mode loose
-mode_of_flag : (pass : ℕ) (mode : Level) (clean : Bool) → IsLawful (Running pass mode clean) →
+mode_of_flag : (pass : ℕ) (mode : Level) (clean : Bool) → IsSoundSlot (Running pass mode clean) →
     clean ≡ false → mode ≡ Loose
 mode_of_flag pass Never clean lawful down = absurd lawful
 mode_of_flag pass Loose clean lawful down = refl
@@ -62,18 +62,18 @@ mode_of_flag pass Firm false lawful down = absurd lawful
 
 -- a void pass ran in mode loose
 void_mode : (s : Setting) (old : Machine) (event : Event) (new : Machine) (t : Ticket) (end : PassEnd) →
-    IsSound s old →
+    IsSoundMachine s old →
     Leads s old event new → event ≡ Finish t end Void → t.mode ≡ Loose
 void_mode s old event new t end sound leads same =
     let finishes : Leads s old (Finish t end Void) new =
     subst (λ (e : Event). Leads s old e new) same leads in
     mode_of_flag t.pass t.mode finishes.judged.running.clean
-    (subst IsLawful finishes.judged.running.slot (sound.lawful (slot_of s t)))
+    (subst IsSoundSlot finishes.judged.running.slot (sound.lawful (slot_of s t)))
     (flag_of_void finishes.judged.running.clean end finishes.judged.given)
 
 -- in a run each void pass ran in mode loose
 pub void_modes : (s : Setting) (events : List Event) (old new : Machine) (t : Ticket) (end : PassEnd) →
-    IsSound s old →
+    IsSoundMachine s old →
     Runs s old events new → Contains events (Finish t end Void) → t.mode ≡ Loose
 void_modes s [] old new t end sound run h = absurd (contains_nothing (Finish t end Void) h)
 void_modes s (event ∷ events) old new t end sound run h =

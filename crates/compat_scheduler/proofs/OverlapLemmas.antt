@@ -27,7 +27,7 @@ use Rattle.compat_scheduler.proofs.Memberships.{contains_later}
 use Rattle.compat_scheduler.proofs.SlotLemmas.{slot_at_past}
 use Rattle.compat_scheduler.proofs.SoundLemmas.{fresh_slots, within_slots}
 use Rattle.compat_scheduler.proofs.SchedulerLemmas.{running-starts, running_newcomer, running_elsewhere}
-use Rattle.compat_scheduler.proofs.RunLemmas.{settled_either, starts-settled, runs-append}
+use Rattle.compat_scheduler.proofs.RunLemmas.{settled_either, starts-finishes, numbered_runs, runs-append}
 
 -- tickets with equal fields are one
 pub same_ticket : (a b : Ticket) → a.pass ≡ b.pass → a.attempt ≡ b.attempt → a.action ≡ b.action →
@@ -46,41 +46,63 @@ same_slot s m a b runs also e =
     same_ticket a b (cc) (omega (arith, runs.attempt, also.attempt, e)) (runs.action ∙ ap (action_of s) e
     ∙ sym also.action) (cc)
 
--- a pass that runs and has no finish in these events still runs after them
-pub still_running : (s : Setting) (events : List Event) (old new : Machine) (t : Ticket) →
-    Runs s old events new → IsRunning s old t →
-    ((end : PassEnd) (verdict : FinishVerdict) → ¬ Contains events (Finish t end verdict)) →
-    IsRunning s new t
-still_running s [] old new t run running none = subst (λ (m : Machine). IsRunning s m t) (sym run) running
-still_running s (Start r ∷ events) old new t run running none =
-    still_running s events run.0 new t run.2 (running-starts s old r run.0 t run.1 running)
-    (λ end verdict h. none end verdict (contains_later (Start r) events (Finish t end verdict) h))
-still_running s (Finish r end verdict ∷ events) old new t run running none =
-    still_running s events run.0 new t run.2
-    (running_elsewhere s old r end verdict run.0 t run.1 running
-    (λ e. none end verdict (contains_first (Finish r end verdict) events (Finish t end verdict)
-    (ap (λ (u : Ticket). Finish u end verdict) (sym (same_slot s old t r running run.1.judged.running e))))))
-    (λ end' verdict' h. none end' verdict' (contains_later (Finish r end verdict) events
-    (Finish t end' verdict') h))
+-- a pass finishes in these events
+abbrev pub HasFinished : List Event → Ticket → Type 0
+HasFinished events t = (end : PassEnd) × (verdict : FinishVerdict) × Contains events (Finish t end verdict)
 
--- a ticket that started in these events and has no finish there runs after them
-pub open_running : (s : Setting) (events : List Event) (old new : Machine) (t : Ticket) →
-    Runs s old events new →
-    Contains events (Start t) → ((end : PassEnd) (verdict : FinishVerdict) →
-    ¬ Contains events (Finish t end verdict)) → IsRunning s new t
-open_running s [] old new t run opened none = absurd (contains_nothing (Start t) opened)
-open_running s (event ∷ events) old new t run opened none =
-    let later_none : (end : PassEnd) (verdict : FinishVerdict) → ¬ Contains events (Finish t end verdict) =
-    λ end verdict h. none end verdict (contains_later event events (Finish t end verdict) h) in
+-- a finish in later events
+finished_later : (event : Event) (events : List Event) (t : Ticket) → HasFinished events t →
+    HasFinished (event ∷ events) t
+finished_later event events t h = (h.0, h.1, contains_later event events (Finish t h.0 h.1) h.2)
+
+-- a pass that runs finishes in the events that follow, or still runs after them
+still_running : (s : Setting) (events : List Event) (old new : Machine) (t : Ticket) →
+    Runs s old events new → IsRunning s old t → IsRunning s new t ⊎ HasFinished events t
+still_running s [] old new t run running = inl (subst (λ (m : Machine). IsRunning s m t) (sym run) running)
+still_running s (Start r ∷ events) old new t run running =
+    ⊎_elim (λ (on : IsRunning s new t). inl on)
+    (λ (done : HasFinished events t). inr (finished_later (Start r) events t done))
+    (still_running s events run.0 new t run.2 (running-starts s old r run.0 t run.1 running))
+still_running s (Finish r end verdict ∷ events) old new t run running =
     ⊎_elim
+    (λ (e : slot_of s t ≡ slot_of s r). inr (
+      end,
+      verdict,
+      contains_first (Finish r end verdict) events
+          (Finish t end verdict) (ap (λ (u : Ticket). Finish u end verdict)
+          (sym (same_slot s old t r running run.1.judged.running e))),
+    ))
+    (λ (differ : slot_of s t ≡ slot_of s r → ⊥).
+    ⊎_elim (λ (on : IsRunning s new t). inl on)
+    (λ (done : HasFinished events t). inr (finished_later (Finish r end verdict) events t done))
+    (still_running s events run.0 new t run.2
+    (running_elsewhere s old r end verdict run.0 t run.1 running differ)))
+    (cases_eq (slot_of s t) (slot_of s r))
+
+-- a pass that starts in these events finishes there, or runs after them
+pub runs_or_finished : (s : Setting) (events : List Event) (old new : Machine) (t : Ticket) →
+    Runs s old events new → Contains events (Start t) → IsRunning s new t ⊎ HasFinished events t
+runs_or_finished s [] old new t run opened = absurd (contains_nothing (Start t) opened)
+runs_or_finished s (event ∷ events) old new t run opened =
+    ⊎_elim (λ (on : IsRunning s new t). inl on)
+    (λ (done : HasFinished events t). inr (finished_later event events t done))
+    (⊎_elim
     (λ (same : event ≡ Start t).
     let starts : Leads s old (Start t) run.0 = subst (λ (e : Event). Leads s old e run.0) same run.1 in
-    still_running s events run.0 new t run.2 (running_newcomer s old t run.0 starts) later_none)
-    (λ (later : Contains events (Start t)). open_running s events run.0 new t run.2 later later_none)
-    (contains_cases event events (Start t) opened)
+    still_running s events run.0 new t run.2 (running_newcomer s old t run.0 starts))
+    (λ (later : Contains events (Start t)). runs_or_finished s events run.0 new t run.2 later)
+    (contains_cases event events (Start t) opened))
+
+-- a pass that is open runs
+pub open_running : (s : Setting) (events : List Event) (m : Machine) (t : Ticket) → IsRun s events m →
+    IsOpen events t → IsRunning s m t
+open_running s events m t run open' =
+    ⊎_elim (λ (on : IsRunning s m t). on)
+    (λ (done : HasFinished events t). absurd (open'.unfinished done.0 done.1 done.2))
+    (runs_or_finished s events (beginning s) m t run open'.opened)
 
 -- in a round that begins nothing runs
-none_fresh : (n i pass : ℕ) (mode : Level) (clean : Bool) →
+pub none_fresh : (n i pass : ℕ) (mode : Level) (clean : Bool) →
     ¬ (slot_at (replicate n (Pending Loose)) i ≡ Running pass mode clean)
 none_fresh n i pass mode clean e =
     ⊎_elim (λ (h : i < n). let fresh : slot_at (replicate n (Pending Loose)) i ≡ Pending Loose =
@@ -90,7 +112,7 @@ none_fresh n i pass mode clean e =
     cc) (cases_lt i n)
 
 -- a slot after a verdict doesn't run
-none_after : (verdict : FinishVerdict) (pass : ℕ) (mode : Level) (clean : Bool) →
+pub none_after : (verdict : FinishVerdict) (pass : ℕ) (mode : Level) (clean : Bool) →
     ¬ (slot_after verdict ≡ Running pass mode clean)
 none_after Kept pass mode clean e = cc
 none_after Void pass mode clean e = cc
@@ -153,36 +175,17 @@ ran_before_start s old t new j pass mode clean starts runs =
     (starts.slots.others j differ) ∙ runs)))
     (cases_eq j (slot_of s t))
 
--- each pass that runs has a number below the count of starts
-abbrev pub AreNumbered : Machine → Type 0
-AreNumbered m = (j pass : ℕ) (mode : Level) (clean : Bool) → slot_at m.slots j ≡ Running pass mode clean →
-    pass < m.starts
-
-numbered_beginning : (s : Setting) → AreNumbered (beginning s)
-numbered_beginning s j pass mode clean runs = absurd (none_fresh (copies s) j pass mode clean runs)
-
--- an event keeps passes numbered
-numbered_leads : (s : Setting) (old : Machine) (event : Event) (new : Machine) → AreNumbered old →
-    Leads s old event new → AreNumbered new
-numbered_leads s old (Start t) new numbered leads j pass mode clean runs =
-    ⊎_elim (λ (e : pass ≡ old.starts). omega (arith, e, leads.starts))
-    (λ h. omega (arith, numbered j pass mode h.0 h.1, leads.starts))
-    (ran_before_start s old t new j pass mode clean leads runs)
-numbered_leads s old (Finish t end verdict) new numbered leads j pass mode clean runs =
-    omega (
-      arith,
-      ap (λ (k : Machine). k.starts) leads.after,
-      starts-settled s (slot_finished old (slot_of s t) end verdict),
-      numbered j pass mode clean (ran_before_finish s old t end verdict new j pass mode clean leads
-          (within_slots old.slots (slot_of s t) (ap is_ended leads.judged.running.slot)) runs),
-    )
-
--- a run keeps passes numbered
-numbered_through : (s : Setting) (events : List Event) (old new : Machine) → AreNumbered old →
-    Runs s old events new → AreNumbered new
-numbered_through s [] old new numbered run = subst AreNumbered (sym run) numbered
-numbered_through s (event ∷ events) old new numbered run =
-    numbered_through s events run.0 new (numbered_leads s old event run.0 numbered run.1) run.2
+-- each pass that starts in these events has a number below the count of starts after them
+started_below : (s : Setting) (events : List Event) (old new : Machine) (t : Ticket) →
+    Runs s old events new → Contains events (Start t) → t.pass < new.starts
+started_below s [] old new t run opened = absurd (contains_nothing (Start t) opened)
+started_below s (event ∷ events) old new t run opened =
+    ⊎_elim
+    (λ (same : event ≡ Start t).
+    let starts : Leads s old (Start t) run.0 = subst (λ (e : Event). Leads s old e run.0) same run.1 in
+    omega (arith, starts.next.pass, starts.starts, (numbered_runs s events run.0 new run.2).0))
+    (λ (later : Contains events (Start t)). started_below s events run.0 new t run.2 later)
+    (contains_cases event events (Start t) opened)
 
 -- a plain rejection is kept where the flag is up
 flag_of_kept : (clean : Bool) → Kept ≡ verdict_on clean PlainRejected → clean ≡ true
@@ -214,13 +217,7 @@ flag_through X s (Finish t end verdict ∷ events) old new p below flag run h =
     (flag_of_kept finishes.judged.running.clean finishes.judged.given))
     (λ (later : Contains events (Finish p PlainRejected Kept)).
     flag_through X s events run.0 new p
-    (omega (
-      arith,
-      below,
-      ap (λ (k : Machine). k.starts) run.1.after,
-      starts-settled s (slot_finished old
-          (slot_of s t) end verdict),
-    ))
+    (omega (arith, below, starts-finishes s old t end verdict run.0 run.1))
     (λ mode clean runs up. flag mode clean (ran_before_finish s old t end verdict run.0
     (slot_of s p) p.pass mode clean run.1
     (within_slots old.slots (slot_of s t) (ap is_ended run.1.judged.running.slot)) runs) up)
@@ -244,13 +241,10 @@ overlapping s front rest m p q run open' =
     let old : Machine = parts.0 in
     let then : (mid : Machine) × Leads s old (Start q) mid × Runs s mid rest m = parts.2 in
     let starts : Starts s old q then.0 = then.1 in
-    let running : IsRunning s old p = open_running s front
-    (beginning s) old p parts.1 open'.opened open'.unfinished in
+    let running : IsRunning s old p = open_running s front old p parts.1 open' in
     let i : ℕ = slot_of s q in
     let j : ℕ = slot_of s p in
-    let numbered : p.pass < old.starts =
-    numbered_through s front (beginning s) old
-    (numbered_beginning s) parts.1 j p.pass p.mode running.clean running.slot in
+    let numbered : p.pass < old.starts = started_below s front (beginning s) old p parts.1 open'.opened in
     let allowed : IsAtLeast (beside s i j) q.mode × IsAtLeast (beside s j i) p.mode =
     subst (IsAllowedBeside s i q.mode j) running.slot (starts.next.first.may.allowed j) in
     let forth : level s q.action p.action ≡ beside s i j = rw (starts.next.action, running.action) refl in

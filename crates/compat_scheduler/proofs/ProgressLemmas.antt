@@ -15,7 +15,7 @@ use Rattle.compat_scheduler.specs.Settings.{Setting, copies, action_of}
 use Rattle.compat_scheduler.specs.Machines.{Machine, slot_at, slot_of, is_running, running_count}
 use Rattle.compat_scheduler.specs.Starts.{IsAllowedBeside, MayStart, IsFirst, IsNext, RunsFrom}
 use Rattle.compat_scheduler.specs.Finishes.{is_ended}
-use Rattle.compat_scheduler.specs.Soundness.{IsSound}
+use Rattle.compat_scheduler.specs.Soundness.{IsSoundMachine}
 use Rattle.compat_scheduler.specs.Runs.{Event, Leads, Runs}
 use Rattle.compat_scheduler.specs.Runs.Event.{Start, Finish}
 use Rattle.compat_scheduler.proofs.SoundLemmas.{within_slots}
@@ -66,7 +66,7 @@ allowed_beside_idle s i x j (Pending mode) idle = tt
 allowed_beside_idle s i x j (Running pass mode clean) idle = absurd (cc)
 
 -- where none is counted none runs
-none_runs : (slots : List Slot) (j : ℕ) → count_by is_running slots ≡ 0 →
+pub none_runs : (slots : List Slot) (j : ℕ) → count_by is_running slots ≡ 0 →
     is_running (slot_at slots j) ≡ false
 none_runs [] j none = refl
 none_runs (Ended ∷ slots) zero none = refl
@@ -81,7 +81,7 @@ none_runs (slot ∷ slots) (suc j) none =
     sum_by-cons (λ (x : Slot). if is_running x then 1 else 0) slot slots in omega arith)
 
 -- where nothing runs in a round that is left, something may start
-pub may_start : (s : Setting) (m : Machine) → IsSound s m → running_count m ≡ 0 → m.stopped ≡ false →
+pub may_start : (s : Setting) (m : Machine) → IsSoundMachine s m → running_count m ≡ 0 → m.stopped ≡ false →
     m.round < s.rounds →
     (t : Ticket) × IsNext s m t
 may_start s m sound none going left =

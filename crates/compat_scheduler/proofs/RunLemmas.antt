@@ -7,8 +7,10 @@ use Rattle.std.proofs.lemmas.Nat.{div-mul-add}
 use Rattle.compat_scheduler.specs.declared.ticket.Ticket.{Ticket}
 use Rattle.compat_scheduler.specs.Settings.{Setting, copies}
 use Rattle.compat_scheduler.specs.Machines.{Machine, slot_of, round_begun, beginning}
-use Rattle.compat_scheduler.specs.Finishes.{is_ended, stops, settled, slot_finished}
-use Rattle.compat_scheduler.specs.Soundness.{IsSound}
+use Rattle.seuss_base.specs.declared.outcome.PassEnd.{PassEnd}
+use Rattle.compat_scheduler.specs.declared.ticket.FinishVerdict.{FinishVerdict}
+use Rattle.compat_scheduler.specs.Finishes.{Finishes, is_ended, stops, settled, slot_finished}
+use Rattle.compat_scheduler.specs.Soundness.{IsSoundMachine}
 use Rattle.compat_scheduler.specs.Runs.{Event, Leads, Runs, IsRun, started, ticket_of, round_of, RoundsRise}
 use Rattle.compat_scheduler.specs.Runs.{stops_it}
 use Rattle.compat_scheduler.specs.Runs.Event.{Start, Finish}
@@ -16,15 +18,15 @@ use Rattle.compat_scheduler.proofs.SchedulerLemmas.{second_fails}
 use Rattle.compat_scheduler.proofs.SoundLemmas.{sound-starts, sound-finishes, within_slots}
 
 -- a machine stays sound
-pub sound-leads : (s : Setting) (old : Machine) (event : Event) (new : Machine) → IsSound s old →
-    Leads s old event new → IsSound s new
+pub sound-leads : (s : Setting) (old : Machine) (event : Event) (new : Machine) → IsSoundMachine s old →
+    Leads s old event new → IsSoundMachine s new
 sound-leads s old (Start t) new sound leads = sound-starts s old t new sound leads
 sound-leads s old (Finish t end verdict) new sound leads =
-    subst (IsSound s) (sym leads.after) (sound-finishes s old t end verdict sound leads.judged)
+    subst (IsSoundMachine s) (sym leads.after) (sound-finishes s old t end verdict sound leads.judged)
 
-pub sound-runs : (s : Setting) (events : List Event) (old new : Machine) → IsSound s old →
-    Runs s old events new → IsSound s new
-sound-runs s [] old new sound run = subst (IsSound s) (sym run) sound
+pub sound-runs : (s : Setting) (events : List Event) (old new : Machine) → IsSoundMachine s old →
+    Runs s old events new → IsSoundMachine s new
+sound-runs s [] old new sound run = subst (IsSoundMachine s) (sym run) sound
 sound-runs s (event ∷ events) old new sound run =
     sound-runs s events run.0 new (sound-leads s old event run.0 sound run.1) run.2
 
@@ -42,13 +44,20 @@ settled_either s m = by_test (list_all is_ended m.slots && not m.stopped) refl w
   by_test false e = inr (e, rw e refl)
 
 -- settling keeps the count of starts
-pub starts-settled : (s : Setting) (m : Machine) → (settled s m).starts ≡ m.starts
+starts-settled : (s : Setting) (m : Machine) → (settled s m).starts ≡ m.starts
 starts-settled s m =
     ⊎_elim (λ (h : ((list_all is_ended m.slots && not m.stopped) ≡ true) × (settled s m ≡ round_begun s
     (m.round + 1) m.starts)).
     ap (λ (k : Machine). k.starts) h.1)
     (λ (h : ((list_all is_ended m.slots && not m.stopped) ≡ false) × (settled s m ≡ m)). ap (λ
     (k : Machine). k.starts) h.1) (settled_either s m)
+
+-- a finish keeps the count of starts
+pub starts-finishes : (s : Setting) (old : Machine) (t : Ticket) (end : PassEnd) (verdict : FinishVerdict)
+    (new : Machine) → Finishes s old t end verdict new → new.starts ≡ old.starts
+starts-finishes s old t end verdict new finishes =
+    ap (λ (k : Machine). k.starts) finishes.after
+    ∙ starts-settled s (slot_finished old (slot_of s t) end verdict)
 
 -- settling never lowers the round
 pub round-settled : (s : Setting) (m : Machine) → m.round ≤ (settled s m).round
@@ -109,9 +118,7 @@ numbered_runs s (Finish t end verdict ∷ events) old new run =
     × (map (λ (u : Ticket). u.pass) (started events) ≡ range_with_len run.0.starts (length
     (started events))) =
     numbered_runs s events run.0 new run.2 in
-    let same : run.0.starts ≡ old.starts =
-    ap (λ (k : Machine). k.starts) run.1.after ∙ starts-settled s (slot_finished old
-    (slot_of s t) end verdict) in
+    let same : run.0.starts ≡ old.starts = starts-finishes s old t end verdict run.0 run.1 in
     (omega arith, rest.1 ∙ ap (λ (n : ℕ). range_with_len n (length (started events))) same)
 
 -- from the beginning passes are numbered from 0
@@ -124,7 +131,7 @@ numbered s events m run =
     all.1 ∙ ap (range_with_len 0) (omega arith)
 
 -- the slot of an event is one of the slots
-pub slot_within : (s : Setting) (old : Machine) (event : Event) (new : Machine) → IsSound s old →
+pub slot_within : (s : Setting) (old : Machine) (event : Event) (new : Machine) → IsSoundMachine s old →
     Leads s old event new →
     slot_of s (ticket_of event) < copies s
 slot_within s old (Start t) new sound leads =
@@ -143,7 +150,7 @@ attempt_of_event s old (Start t) new leads = leads.next.attempt
 attempt_of_event s old (Finish t end verdict) new leads = leads.judged.running.attempt
 
 -- an event is of the machine's round
-pub round_of_event : (s : Setting) (old : Machine) (event : Event) (new : Machine) → IsSound s old →
+pub round_of_event : (s : Setting) (old : Machine) (event : Event) (new : Machine) → IsSoundMachine s old →
     Leads s old event new →
     round_of s event ≡ old.round
 round_of_event s old event new sound leads =
@@ -152,7 +159,7 @@ round_of_event s old event new sound leads =
     (slot_within s old event new sound leads)
 
 -- rounds never fall
-pub rounds_rise : (s : Setting) (low : ℕ) (events : List Event) (old new : Machine) → IsSound s old →
+pub rounds_rise : (s : Setting) (low : ℕ) (events : List Event) (old new : Machine) → IsSoundMachine s old →
     low ≤ old.round →
     Runs s old events new → RoundsRise s low events
 rounds_rise s low [] old new sound above run = tt

@@ -132,6 +132,11 @@ running_newcomer s old t new starts = record {
 settled_stays : (s : Setting) (m : Machine) (j : ℕ) → is_ended (slot_at m.slots j) ≡ false → settled s m ≡ m
 settled_stays s m j here = rw (one_not_ended m.slots j here) refl
 
+-- where the first holds and not the second, the first holds
+pub first_holds : (a b : Bool) → (a && not b) ≡ true → a ≡ true
+first_holds true b e = refl
+first_holds false b e = absurd (cc)
+
 -- where the first holds and not the second, the second fails
 pub second_fails : (a b : Bool) → (a && not b) ≡ true → b ≡ false
 second_fails a false e = refl

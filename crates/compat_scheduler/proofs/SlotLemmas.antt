@@ -21,10 +21,14 @@ lowered-ended Loose = refl
 lowered-ended Firm = refl
 
 -- a slot past the end isn't pending
+pub pending_past : (slots : List Slot) (j : ℕ) (mode : Level) → length slots ≤ j →
+    ¬ (slot_at slots j ≡ Pending mode)
+pending_past slots j mode past waits = let ended : slot_at slots j ≡ Ended = slot_at_past slots j past in cc
+
+-- so it may not start
 pub none_past : (s : Setting) (slots : List Slot) (j : ℕ) (mode : Level) → length slots ≤ j →
     ¬ MayStart s slots j mode
-none_past s slots j mode past may = let ended : slot_at slots j ≡ Ended = slot_at_past slots j past in
-    let waits : slot_at slots j ≡ Pending mode = may.pending in cc
+none_past s slots j mode past may = pending_past slots j mode past may.pending
 
 -- what holds of each slot of the list, and of one that has ended, holds at every number
 pub at_each_slot : (P : ℕ → Slot → Type 0) (slots : List Slot) (n : ℕ) → length slots ≤ n → ((j : ℕ) →

@@ -26,7 +26,7 @@ use Rattle.compat_scheduler.specs.Starts.{IsAllowedBeside, IsFirmBeside, IsFirmB
 use Rattle.compat_scheduler.specs.Starts.{RunsFrom, Starts, lowered}
 use Rattle.compat_scheduler.specs.Finishes.{is_ended, verdict_on, slot_after, settled, slot_finished}
 use Rattle.compat_scheduler.specs.Finishes.{IsVerdict}
-use Rattle.compat_scheduler.specs.Soundness.{IsLawful, passes_within, IsSound}
+use Rattle.compat_scheduler.specs.Soundness.{IsSoundSlot, passes_within, IsSoundMachine}
 use Rattle.compat_scheduler.proofs.SlotLemmas.{slot_at_past}
 use Rattle.compat_scheduler.proofs.Sums.{sum_by_one_more, one_not_ended}
 
@@ -42,10 +42,10 @@ within_slots slots i here =
 pub fresh_slots : (n i : ℕ) → i < n → slot_at (replicate n (Pending Loose)) i ≡ Pending Loose
 fresh_slots n i h = get_or-replicate n i (Pending Loose) Ended h
 
-lawful_fresh : (n i : ℕ) → IsLawful (slot_at (replicate n (Pending Loose)) i)
+lawful_fresh : (n i : ℕ) → IsSoundSlot (slot_at (replicate n (Pending Loose)) i)
 lawful_fresh n i =
-    ⊎_elim (λ (h : i < n). subst IsLawful (sym (fresh_slots n i h)) tt)
-    (λ (h : n ≤ i). subst IsLawful (sym (slot_at_past (replicate n (Pending Loose)) i (omega (
+    ⊎_elim (λ (h : i < n). subst IsSoundSlot (sym (fresh_slots n i h)) tt)
+    (λ (h : n ≤ i). subst IsSoundSlot (sym (slot_at_past (replicate n (Pending Loose)) i (omega (
       arith,
       length-replicate n (Pending Loose),
     )))) tt)
@@ -54,7 +54,7 @@ lawful_fresh n i =
 -- a round that begins is sound, where all rounds are done or there is a slot
 pub sound-round_begun : (s : Setting) (round starts : ℕ) → round ≤ s.rounds → (round < s.rounds →
     0 < copies s) →
-    starts ≤ 2 * (round * copies s) → IsSound s (round_begun s round starts)
+    starts ≤ 2 * (round * copies s) → IsSoundMachine s (round_begun s round starts)
 sound-round_begun s round starts within some few = record {
   many = length-replicate (copies s) (Pending Loose);
   lawful = lawful_fresh (copies s);
@@ -67,13 +67,13 @@ sound-round_begun s round starts within some few = record {
 }
 
 -- the beginning is sound
-pub sound-beginning : (s : Setting) → IsSound s (beginning s)
+pub sound-beginning : (s : Setting) → IsSoundMachine s (beginning s)
 sound-beginning s = by_test (copies s == 0) (λ e. grind (arith, nat_tests)) (λ e. grind (
   arith,
   nat_tests,
 )) where
-  by_test : (b : Bool) → (b ≡ true → copies s ≡ 0) → (b ≡ false → 0 < copies s) → IsSound s (round_begun s
-      (if b then s.rounds else 0) 0)
+  by_test : (b : Bool) → (b ≡ true → copies s ≡ 0) → (b ≡ false → 0 < copies s) →
+      IsSoundMachine s (round_begun s (if b then s.rounds else 0) 0)
   by_test true none some = sound-round_begun s s.rounds 0 (omega arith) (λ h. absurd (omega arith))
       (omega arith)
   by_test false none some = sound-round_begun s 0 0 (omega arith) (λ _. some refl) (omega arith)
@@ -93,8 +93,8 @@ firm_newcomer s i j (Running pass mode clean) h = firm_at_least (beside s i j) h
 
 -- the newcomer's slot is lawful
 lawful_newcomer : (s : Setting) (slots : List Slot) (i pass : ℕ) (mode : Level) (clean : Bool) →
-    MayStart s slots i mode → IsLawful (Pending mode) → (IsFirmBesideAll s slots i → IsTrue clean) →
-    IsLawful (Running pass mode clean)
+    MayStart s slots i mode → IsSoundSlot (Pending mode) → (IsFirmBesideAll s slots i → IsTrue clean) →
+    IsSoundSlot (Running pass mode clean)
 lawful_newcomer s slots i pass Never clean may lawful flag = lawful
 lawful_newcomer s slots i pass Loose clean may lawful flag = tt
 lawful_newcomer s slots i pass Firm true may lawful flag = tt
@@ -103,11 +103,11 @@ lawful_newcomer s slots i pass Firm false may lawful flag =
 
 -- a slot beside a newcomer that is allowed beside it stays lawful
 lawful-lowered : (s : Setting) (i j : ℕ) (x : Level) (slot : Slot) → IsAllowedBeside s i x j slot →
-    IsLawful slot →
-    IsLawful (lowered (beside s j i) slot)
+    IsSoundSlot slot →
+    IsSoundSlot (lowered (beside s j i) slot)
 lawful-lowered s i j x slot h lawful = by_level (beside s j i) refl slot h lawful where
   by_level : (level : Level) → beside s j i ≡ level → (slot : Slot) → IsAllowedBeside s i x j slot →
-      IsLawful slot → IsLawful (lowered level slot)
+      IsSoundSlot slot → IsSoundSlot (lowered level slot)
   by_level Firm e slot h lawful = lawful
   by_level Loose e Ended h lawful = tt
   by_level Loose e (Pending mode) h lawful = lawful
@@ -138,7 +138,7 @@ passes_within-lowered Never (Running pass Loose clean) = refl
 passes_within-lowered Never (Running pass Firm clean) = refl
 
 -- a start is one pass more
-passes_within_started : (pass : ℕ) (mode : Level) (clean : Bool) → IsLawful (Pending mode) →
+passes_within_started : (pass : ℕ) (mode : Level) (clean : Bool) → IsSoundSlot (Pending mode) →
     passes_within (Running pass mode clean) ≡ passes_within (Pending mode) + 1
 passes_within_started pass Never clean lawful = absurd lawful
 passes_within_started pass Loose clean lawful = refl
@@ -147,7 +147,7 @@ passes_within_started pass Firm clean lawful = refl
 -- the slots after a start have room for one pass more
 pub passes_within_runs : (s : Setting) (old new : List Slot) (i pass : ℕ) (mode : Level) →
     RunsFrom s old i pass mode new →
-    slot_at old i ≡ Pending mode → IsLawful (Pending mode) →
+    slot_at old i ≡ Pending mode → IsSoundSlot (Pending mode) →
     sum_by passes_within new ≡ sum_by passes_within old + 1
 passes_within_runs s old new i pass mode runs pending lawful =
     sum_by_one_more passes_within Ended old new i runs.many (within_slots old i (ap is_ended pending))
@@ -157,21 +157,21 @@ passes_within_runs s old new i pass mode runs pending lawful =
     (slot_at old j))
 
 -- a start keeps a machine sound
-pub sound-starts : (s : Setting) (old : Machine) (t : Ticket) (new : Machine) → IsSound s old →
-    Starts s old t new → IsSound s new
+pub sound-starts : (s : Setting) (old : Machine) (t : Ticket) (new : Machine) → IsSoundMachine s old →
+    Starts s old t new → IsSoundMachine s new
 sound-starts s old t new sound starts =
     let i : ℕ = slot_of s t in
     let pending : slot_at old.slots i ≡ Pending t.mode = starts.next.first.may.pending in
-    let lawful : IsLawful (Pending t.mode) = subst IsLawful pending (sound.lawful i) in
+    let lawful : IsSoundSlot (Pending t.mode) = subst IsSoundSlot pending (sound.lawful i) in
     let left : old.round < s.rounds = starts.next.left in
     record {
       many = starts.slots.many ∙ sound.many;
       lawful = λ j. ⊎_elim
-          (λ (e : j ≡ i). subst (λ k. IsLawful (slot_at new.slots k)) (sym e) (subst IsLawful
+          (λ (e : j ≡ i). subst (λ k. IsSoundSlot (slot_at new.slots k)) (sym e) (subst IsSoundSlot
           (sym starts.slots.here)
           (lawful_newcomer s old.slots i t.pass t.mode starts.slots.clean starts.next.first.may lawful
           starts.slots.flag.1)))
-          (λ (differ : j ≡ i → ⊥). subst IsLawful (sym (starts.slots.others j differ))
+          (λ (differ : j ≡ i → ⊥). subst IsSoundSlot (sym (starts.slots.others j differ))
           (lawful-lowered s i j t.mode (slot_at old.slots j) (starts.next.first.may.allowed j)
           (sound.lawful j)))
           (cases_eq j i);
@@ -199,7 +199,7 @@ passes_within_most (Running pass Firm clean) = omega arith
 
 -- a slot has room for no fewer passes after a finish
 passes_within_finished : (pass : ℕ) (mode : Level) (clean : Bool) (end : PassEnd) →
-    IsLawful (Running pass mode clean) →
+    IsSoundSlot (Running pass mode clean) →
     passes_within (Running pass mode clean) ≤ passes_within (slot_after (verdict_on clean end))
 passes_within_finished pass Loose false PlainRejected lawful = omega arith
 passes_within_finished pass Firm false PlainRejected lawful = absurd lawful
@@ -210,13 +210,13 @@ passes_within_finished pass mode clean Rejected lawful = passes_within_most (Run
 passes_within_finished pass mode clean (Trapped trap) lawful = passes_within_most (Running pass mode clean)
 passes_within_finished pass mode clean Spent lawful = passes_within_most (Running pass mode clean)
 
-lawful_after : (verdict : FinishVerdict) → IsLawful (slot_after verdict)
+lawful_after : (verdict : FinishVerdict) → IsSoundSlot (slot_after verdict)
 lawful_after Kept = tt
 lawful_after Void = tt
 
 -- where a pass runs a round is left
 pub left_while_running : (s : Setting) (m : Machine) (i pass : ℕ) (mode : Level) (clean : Bool) →
-    IsSound s m →
+    IsSoundMachine s m →
     slot_at m.slots i ≡ Running pass mode clean → m.round < s.rounds
 left_while_running s m i pass mode clean sound here =
     let within : i < length m.slots = within_slots m.slots i (ap is_ended here) in
@@ -230,19 +230,15 @@ first_fails true false e f = e
 first_fails true true e f = absurd (cc)
 first_fails false b e f = refl
 
-both_hold : (a b : Bool) → (a && not b) ≡ true → (a ≡ true)
-both_hold true b e = refl
-both_hold false b e = absurd (cc)
-
 -- a machine whose round may be done is sound once that is settled
 pub sound-settled : (s : Setting) (m : Machine) → length m.slots ≡ copies s → ((i : ℕ) →
-    IsLawful (slot_at m.slots i)) →
+    IsSoundSlot (slot_at m.slots i)) →
     m.round < s.rounds → 0 < copies s →
-    m.starts ≤ 2 * (m.round * copies s) + sum_by passes_within m.slots → IsSound s (settled s m)
+    m.starts ≤ 2 * (m.round * copies s) + sum_by passes_within m.slots → IsSoundMachine s (settled s m)
 sound-settled s m many lawful left some counted =
     by_test (list_all is_ended m.slots && not m.stopped) refl where
       by_test : (b : Bool) → (list_all is_ended m.slots && not m.stopped) ≡ b →
-          IsSound s (if b then round_begun s (m.round + 1) m.starts else m)
+          IsSoundMachine s (if b then round_begun s (m.round + 1) m.starts else m)
       by_test true e =
           let most : sum_by passes_within m.slots ≤ length m.slots * 2 = sum_by-le passes_within 2 m.slots
           (λ k d h. passes_within_most (get_or m.slots k d)) in
@@ -264,23 +260,23 @@ sound-settled s m many lawful left some counted =
 
 -- a finish keeps a machine sound
 pub sound-finishes : (s : Setting) (old : Machine) (t : Ticket) (end : PassEnd) (verdict : FinishVerdict) →
-    IsSound s old →
-    IsVerdict s old t end verdict → IsSound s (settled s (slot_finished old (slot_of s t) end verdict))
+    IsSoundMachine s old → IsVerdict s old t end verdict →
+    IsSoundMachine s (settled s (slot_finished old (slot_of s t) end verdict))
 sound-finishes s old t end verdict sound judged =
     let i : ℕ = slot_of s t in
     let clean : Bool = judged.running.clean in
     let here : slot_at old.slots i ≡ Running t.pass t.mode clean = judged.running.slot in
     let within : i < length old.slots = within_slots old.slots i (ap is_ended here) in
-    let lawful : IsLawful (Running t.pass t.mode clean) = subst IsLawful here (sound.lawful i) in
+    let lawful : IsSoundSlot (Running t.pass t.mode clean) = subst IsSoundSlot here (sound.lawful i) in
     let room : passes_within (slot_at old.slots i) ≤ passes_within (slot_after verdict) =
     rw (here, judged.given) (passes_within_finished t.pass t.mode clean end lawful) in
     sound-settled s (slot_finished old i end verdict)
     (length-set old.slots i (slot_after verdict) ∙ sound.many)
     (λ j. ⊎_elim
-    (λ (e : j ≡ i). subst (λ k. IsLawful (slot_at (slice_set old.slots i (slot_after verdict)) k)) (sym e)
-    (subst IsLawful (sym (get_or-set_same old.slots i (slot_after verdict) Ended within))
+    (λ (e : j ≡ i). subst (λ k. IsSoundSlot (slot_at (slice_set old.slots i (slot_after verdict)) k)) (sym e)
+    (subst IsSoundSlot (sym (get_or-set_same old.slots i (slot_after verdict) Ended within))
     (lawful_after verdict)))
-    (λ (differ : j ≡ i → ⊥). subst IsLawful (sym (get_or-set_other old.slots i j
+    (λ (differ : j ≡ i → ⊥). subst IsSoundSlot (sym (get_or-set_other old.slots i j
     (slot_after verdict) Ended differ)) (sound.lawful j))
     (cases_eq j i))
     (left_while_running s old i t.pass t.mode clean sound here)

@@ -6,7 +6,7 @@ use Rattle.std.specs.List.{list_any}
 use Rattle.compat_scheduler.specs.Settings.{Setting}
 use Rattle.compat_scheduler.specs.Machines.{Machine, slot_of, beginning}
 use Rattle.compat_scheduler.specs.Finishes.{slot_finished}
-use Rattle.compat_scheduler.specs.Soundness.{IsSound}
+use Rattle.compat_scheduler.specs.Soundness.{IsSoundMachine}
 use Rattle.compat_scheduler.specs.Runs.{Event, Leads, Runs, IsRun, started, round_of, stops_it}
 use Rattle.compat_scheduler.specs.Runs.Event.{Start, Finish}
 use Rattle.compat_scheduler.proofs.Memberships.{contains_nothing, contains_cases}
@@ -39,8 +39,8 @@ stopping s old (Finish t end verdict) new leads stop =
     )
 
 -- an event that stops the machine is of the last round
-pub last_round : (s : Setting) (events : List Event) (old new : Machine) (event : Event) → IsSound s old →
-    Runs s old events new →
+pub last_round : (s : Setting) (events : List Event) (old new : Machine) (event : Event) →
+    IsSoundMachine s old → Runs s old events new →
     Contains events event → stops_it event ≡ true → round_of s event ≡ new.round
 last_round s [] old new event sound run h stop = absurd (contains_nothing event h)
 last_round s (first ∷ events) old new event sound run h stop =

@@ -12,7 +12,7 @@ use Rattle.compat_scheduler.specs.declared.slot.Slot.TheVariants.{Pending, Ended
 use Rattle.compat_scheduler.specs.declared.ticket.Ticket.{Ticket}
 use Rattle.compat_scheduler.specs.Settings.{Setting, copies, action_of}
 use Rattle.compat_scheduler.specs.Machines.{Machine, slot_of}
-use Rattle.compat_scheduler.specs.Soundness.{passes_within, IsSound}
+use Rattle.compat_scheduler.specs.Soundness.{passes_within, IsSoundMachine}
 use Rattle.compat_scheduler.specs.Runs.{Event, Leads, Runs}
 use Rattle.compat_scheduler.specs.Runs.Event.{Start}
 use Rattle.compat_scheduler.proofs.Memberships.{contains_nothing, contains_cases}
@@ -20,7 +20,7 @@ use Rattle.compat_scheduler.proofs.SoundLemmas.{passes_within_most}
 use Rattle.compat_scheduler.proofs.RunLemmas.{sound-leads, slot_within}
 
 -- there are at most two passes for each attempt
-pub passes_few : (s : Setting) (m : Machine) → IsSound s m → m.starts ≤ 2 * (s.rounds * copies s)
+pub passes_few : (s : Setting) (m : Machine) → IsSoundMachine s m → m.starts ≤ 2 * (s.rounds * copies s)
 passes_few s m sound =
     ⊎_elim
     (λ (over : m.round ≡ s.rounds).
@@ -41,8 +41,8 @@ passes_few s m sound =
     (cases_eq m.round s.rounds)
 
 -- the ticket of a start is of one of the attempts, and its action is that of its slot
-start_ticket : (s : Setting) (old : Machine) (event : Event) (new : Machine) (t : Ticket) → IsSound s old →
-    Leads s old event new →
+start_ticket : (s : Setting) (old : Machine) (event : Event) (new : Machine) (t : Ticket) →
+    IsSoundMachine s old → Leads s old event new →
     event ≡ Start t → (t.attempt < s.rounds * copies s) × (t.action ≡ action_of s (slot_of s t))
 start_ticket s old event new t sound leads same =
     let starts : Leads s old (Start t) new = subst (λ (e : Event). Leads s old e new) same leads in
@@ -52,8 +52,8 @@ start_ticket s old event new t sound leads same =
     (omega (arith, starts.next.attempt, below, rounds, add-mul old.round 1 (copies s)), starts.next.action)
 
 -- so it is for each start of a run
-pub start_tickets : (s : Setting) (events : List Event) (old new : Machine) (t : Ticket) → IsSound s old →
-    Runs s old events new →
+pub start_tickets : (s : Setting) (events : List Event) (old new : Machine) (t : Ticket) →
+    IsSoundMachine s old → Runs s old events new →
     Contains events (Start t) → (t.attempt < s.rounds * copies s) × (t.action ≡ action_of s (slot_of s t))
 start_tickets s [] old new t sound run h = absurd (contains_nothing (Start t) h)
 start_tickets s (event ∷ events) old new t sound run h =

@@ -1,3 +1,5 @@
+pub mod Bars
+pub mod Counts
 pub mod Finishes
 pub mod Machines
 pub mod Runs

@@ -1,6 +1,7 @@
 -- The states of the scheduler's machine.
 use Rattle.std.specs.Prelude.{◌≡◌, ℕ, ◌+◌, ◌*◌, ◌%◌, ◌==◌, Bool, true, false, List, slice_index_or}
 use Rattle.std.specs.Prelude.{replicate, count_by, if◌then◌else◌}
+use Rattle.seuss_base.specs.declared.level.Level.{Level}
 use Rattle.seuss_base.specs.declared.level.Level.TheVariants.{Loose}
 use Rattle.compat_scheduler.specs.declared.slot.Slot.{Slot}
 use Rattle.compat_scheduler.specs.declared.slot.Slot.TheVariants.{Pending, Running, Ended}
@@ -47,6 +48,10 @@ pub record IsRunning (s : Setting) (m : Machine) (t : Ticket) : Type 0 where
   pub slot : slot_at m.slots (slot_of s t) ≡ Running t.pass t.mode clean
   pub attempt : t.attempt ≡ m.round * copies s + slot_of s t
   pub action : t.action ≡ action_of s (slot_of s t)
+
+-- this pass runs in the slot, in this mode
+abbrev pub RunsAs : Slot → ℕ → Level → Type 0
+RunsAs slot pass mode = (clean : Bool) × (slot ≡ Running pass mode clean)
 
 -- a pass runs in this slot
 abbrev pub is_running : Slot → Bool

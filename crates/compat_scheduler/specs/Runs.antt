@@ -40,6 +40,12 @@ started [] = []
 started (Start t ∷ events) = t ∷ started events
 started (Finish t end verdict ∷ events) = started events
 
+-- how many passes finished
+abbrev pub finishes_in : List Event → ℕ
+finishes_in [] = 0
+finishes_in (Start t ∷ events) = finishes_in events
+finishes_in (Finish t end verdict ∷ events) = 1 + finishes_in events
+
 -- the ticket was started, and hasn't finished
 pub record IsOpen (events : List Event) (t : Ticket) : Type 0 where
   pub opened : Contains events (Start t)

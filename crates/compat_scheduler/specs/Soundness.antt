@@ -9,15 +9,15 @@ use Rattle.compat_scheduler.specs.Machines.{Machine, slot_at}
 use Rattle.compat_scheduler.specs.Finishes.{is_ended}
 
 -- a mode is loose or firm, and a pass in mode firm has its flag up
-abbrev pub IsLawful : Slot → Type 0
-IsLawful (Pending Never) = ⊥
-IsLawful (Pending Loose) = Unit {0}
-IsLawful (Pending Firm) = Unit {0}
-IsLawful (Running pass Never clean) = ⊥
-IsLawful (Running pass Loose clean) = Unit {0}
-IsLawful (Running pass Firm true) = Unit {0}
-IsLawful (Running pass Firm false) = ⊥
-IsLawful Ended = Unit {0}
+abbrev pub IsSoundSlot : Slot → Type 0
+IsSoundSlot (Pending Never) = ⊥
+IsSoundSlot (Pending Loose) = Unit {0}
+IsSoundSlot (Pending Firm) = Unit {0}
+IsSoundSlot (Running pass Never clean) = ⊥
+IsSoundSlot (Running pass Loose clean) = Unit {0}
+IsSoundSlot (Running pass Firm true) = Unit {0}
+IsSoundSlot (Running pass Firm false) = ⊥
+IsSoundSlot Ended = Unit {0}
 
 -- how many passes of this attempt may have started: an attempt has at most two
 abbrev pub passes_within : Slot → ℕ
@@ -34,9 +34,9 @@ abbrev pub IsFresh : Slot → Type 0
 IsFresh slot = slot ≡ Pending Loose
 
 -- the slots, the round, the stop and the count of starts fit one another
-pub record IsSound (s : Setting) (m : Machine) : Type 0 where
+pub record IsSoundMachine (s : Setting) (m : Machine) : Type 0 where
   pub many : length m.slots ≡ copies s
-  pub lawful : (i : ℕ) → IsLawful (slot_at m.slots i)
+  pub lawful : (i : ℕ) → IsSoundSlot (slot_at m.slots i)
   pub within : m.round ≤ s.rounds
   pub over : m.round ≡ s.rounds → (i : ℕ) → i < copies s → IsFresh (slot_at m.slots i)
   pub left : m.stopped ≡ true → m.round < s.rounds
@@ -45,6 +45,6 @@ pub record IsSound (s : Setting) (m : Machine) : Type 0 where
 
 -- a sound machine, in a setting whose attempts and slots fit their types
 pub record IsScheduler (s : Setting) (m : Machine) : Type 0 where
-  pub sound : IsSound s m
+  pub sound : IsSoundMachine s m
   pub few : s.rounds * copies s ≤ 10000000
   pub short : copies s < 2 ^ 32

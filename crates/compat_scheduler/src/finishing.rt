@@ -1,10 +1,11 @@
 //! What a finish does to the slots of a round.
 
-ghost use Rattle.std.specs.Prelude.{◌≡◌, ◌&&◌, ◌||◌, not, ◌<◌, ◌^◌, length, replicate, count_by};
+ghost use Rattle.std.specs.Prelude.{◌≡◌, ◌&&◌, ◌||◌, not, ◌<◌, ◌^◌, ◌↔◌, IsTrue};
+ghost use Rattle.std.specs.Prelude.{length, replicate, count_by};
 ghost use Rattle.std.specs.List.{list_all};
 ghost use Rattle.seuss_base.specs.declared.level.Level.TheVariants.{Loose};
 ghost use Rattle.compat_scheduler.specs.declared.slot.Slot.TheVariants.{Pending};
-ghost use Rattle.compat_scheduler.specs.Machines.{flag_of, is_running};
+ghost use Rattle.compat_scheduler.specs.Machines.{flag_of, is_running, RunsAs};
 ghost use Rattle.compat_scheduler.specs.Finishes.{is_ended, slot_after, stops, verdict_on};
 
 use crate::{FinishVerdict, Slot};
@@ -30,6 +31,21 @@ pub fn flag(slot: &Slot) -> bool
             mode: _,
             clean,
         } => *clean,
+        Slot::Pending(_) => false,
+        Slot::Ended => false,
+    }
+}
+
+/// Whether this pass runs in the slot, in this mode.
+pub fn runs_as(slot: Slot, pass: u64, mode: Level) -> bool
+    ensures { IsTrue result ↔ RunsAs slot pass mode }
+{
+    match slot {
+        Slot::Running {
+            pass: its_pass,
+            mode: its_mode,
+            clean: _,
+        } => its_pass == pass && its_mode == mode,
         Slot::Pending(_) => false,
         Slot::Ended => false,
     }

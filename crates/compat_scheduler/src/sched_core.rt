@@ -1,21 +1,30 @@
+//! The scheduler and its calls.
+
 ghost use Rattle.std.specs.Prelude.{◌≡◌, ◌≢◌, ◌*◌, ◌≤◌, ◌↔◌, IsTrue, IfOk, IfSome, MatchOption};
+ghost use Rattle.seuss_base.specs.declared.level.Level.{Level};
+ghost use Rattle.compat_scheduler.specs.declared.slot.Slot.TheVariants.{Pending};
 ghost use Rattle.compat_scheduler.specs.declared.ticket.Ticket.{Ticket};
 ghost use Rattle.compat_scheduler.specs.Settings.{one_slot_each};
-ghost use Rattle.compat_scheduler.specs.Machines.{beginning, IsAllDone, IsRunning, running_count};
+ghost use Rattle.compat_scheduler.specs.Machines.{beginning, slot_at, IsAllDone, IsRunning, running_count};
+ghost use Rattle.compat_scheduler.specs.Bars.{IsPending, barring_count};
 ghost use Rattle.compat_scheduler.specs.Starts.{IsNext, NoneStarts, Starts};
 ghost use Rattle.compat_scheduler.specs.Finishes.{IsVerdict, Finishes};
 
+use crate::counting::{BarCounts, count_newcomer, first_free, read_count, uncount_leaver};
 use crate::finishing::{
-    begin_round, count_running, flag, is_round_done, judge, slot_to_follow, stopped_after,
+    begin_round, count_running, flag, is_round_done, judge, runs_as, slot_to_follow, stopped_after,
 };
-use crate::scan::{first_to_start, run_slot};
+use crate::scan::first_to_start;
 use crate::setting::{Setting, one_for_each};
+use crate::starting::run_slot;
 use crate::{FinishVerdict, Slot, Ticket};
 use seuss_base::{CompatRows, Level, Memory, PassEnd};
 use std::alloc::Global;
 use std::marker::Model;
 
-/// The scheduler: which attempt starts, which pass is void, when a round and the run are over.
+/// The scheduler: which attempt starts, which pass is void, when a round and the run are over. For each
+/// slot and mode it keeps how many of the slots that run bar it, and changes these counts at each start
+/// and finish. So no call but the plain `next_by_scan` compares slots with slots.
 #[derive(Drop)]
 pub struct SchedCore {
     setting: Setting,
@@ -23,11 +32,13 @@ pub struct SchedCore {
     starts: u64,
     stopped: bool,
     slots: Vec<Slot>,
+    counts: Vec<BarCounts>,
 }
 
 impl Model for SchedCore {
     ghost use Rattle.compat_scheduler.specs.Machines.{Scheduler};
     ghost use Rattle.compat_scheduler.specs.Soundness.{IsScheduler};
+    ghost use Rattle.compat_scheduler.specs.Counts.{AreCounts};
 
     ghost Value = { Scheduler };
 
@@ -38,12 +49,13 @@ impl Model for SchedCore {
     } };
 
     ghost invariant = { λ c. IsScheduler c.setting
-        (record { round = c.round; starts = c.starts; stopped = c.stopped; slots = c.slots.items }) };
+        (record { round = c.round; starts = c.starts; stopped = c.stopped; slots = c.slots.items })
+        × AreCounts c.setting c.slots.items c.counts.items };
 }
 
 impl SchedCore {
     /// A scheduler at its beginning, over the actions that the rows count and this many rounds. It
-    /// takes all the memory that its calls need.
+    /// takes all the memory that its calls need. Its cost is that of the slots.
     pub fn new(
         alloc: Global,
         rows: CompatRows,
@@ -57,6 +69,7 @@ impl SchedCore {
     {
         let setting = one_for_each(alloc, rows, actions, rounds)?;
         let slots = vec![in alloc; Slot::Pending(Level::Loose); setting.copies()]?;
+        let counts = vec![in alloc; BarCounts { loose: 0, firm: 0 }; setting.copies()]?;
         let round = setting.first_round();
         Ok(SchedCore {
             setting,
@@ -64,11 +77,30 @@ impl SchedCore {
             starts: 0,
             stopped: false,
             slots,
+            counts,
         })
     }
 
-    /// The ticket that `start` would answer now.
+    /// The ticket that `start` would answer now. It goes over the slots once, and reads one count of each.
     pub fn next(&self) -> Option<Ticket>
+        ensures { MatchOption result (NoneStarts self.now.setting self.now.machine)
+            (IsNext self.now.setting self.now.machine) }
+    {
+        if self.stopped || self.round == self.setting.rounds() {
+            return None;
+        }
+        let (slot, mode) = first_free(self.slots.as_slice(), self.counts.as_slice())?;
+        Some(Ticket {
+            pass: self.starts,
+            attempt: self.setting.attempt(self.round, slot),
+            action: self.setting.action_of(slot),
+            mode,
+        })
+    }
+
+    /// The same ticket without the counts, as a plain program beside `next`: it compares each slot that
+    /// waits with each that runs, so its cost is the product of the slots and those that run.
+    pub fn next_by_scan(&self) -> Option<Ticket>
         ensures { MatchOption result (NoneStarts self.now.setting self.now.machine)
             (IsNext self.now.setting self.now.machine) }
     {
@@ -84,9 +116,59 @@ impl SchedCore {
         })
     }
 
+    /// The mode in which a slot is pending, if it is.
+    pub fn pending_mode(&self, slot: u32) -> Option<Level>
+        ensures { MatchOption result (¬ IsPending self.now.machine.slots slot)
+            (λ mode. slot_at self.now.machine.slots slot ≡ Pending mode) }
+    {
+        let at = slot as usize;
+        if at >= self.slots.len() {
+            return None;
+        }
+        let Slot::Pending(mode) = self.slots[at] else {
+            return None;
+        };
+        Some(mode)
+    }
+
+    /// Whether the ticket's pass runs. It reads one slot.
+    pub fn is_running(&self, ticket: &Ticket) -> bool
+        ensures { IsTrue result ↔ IsRunning self.now.setting self.now.machine ticket.now }
+    {
+        if self.setting.copies() == 0 || self.round == self.setting.rounds() {
+            return false;
+        }
+        let slot = self.setting.slot_of(ticket);
+        let attempt = self.setting.attempt(self.round, slot);
+        let action = self.setting.action_of(slot);
+        runs_as(self.slots[slot], ticket.pass, ticket.mode)
+            && ticket.attempt == attempt
+            && ticket.action == action
+    }
+
+    /// How many of the slots that run bar this one, which is pending: beside them it may not run in its
+    /// mode. It reads one count. The slot of an action has the action's number, as `new` makes them.
+    pub fn barred_by(&self, slot: u32) -> u32
+        requires { IsPending self.now.machine.slots slot }
+        ensures { (mode : Level) → slot_at self.now.machine.slots slot ≡ Pending mode →
+            result ≡ barring_count self.now.setting self.now.machine.slots slot mode }
+    {
+        let at = slot as usize;
+        match self.slots[at] {
+            Slot::Pending(mode) => read_count(mode, self.counts[at]),
+            Slot::Running {
+                pass: _,
+                mode: _,
+                clean: _,
+            } => 0,
+            Slot::Ended => 0,
+        }
+    }
+
     /// Starts the first attempt of this round, by number, that may run beside all that run. None
     /// comes where no pass can start: the scheduler has stopped, all rounds are done, or each
-    /// attempt that waits is barred by one that runs.
+    /// attempt that waits is barred by one that runs. It goes over the slots four times, one after
+    /// another: for the choice, for its flag, for the flags of the others, and for the counts.
     pub fn start(&mut self) -> Option<Ticket>
         ensures setting { self.new.setting ≡ self.old.setting }
         ensures machine { MatchOption result
@@ -106,11 +188,12 @@ impl SchedCore {
             ticket.pass,
             ticket.mode,
         );
+        count_newcomer(&self.setting, self.counts.as_mut_slice(), slot, ticket.mode);
         self.starts += 1;
         Some(ticket)
     }
 
-    /// The verdict that `finish` would answer now.
+    /// The verdict that `finish` would answer now. It reads one slot.
     pub fn verdict(&self, ticket: &Ticket, end: &PassEnd) -> FinishVerdict
         requires { IsRunning self.now.setting self.now.machine ticket.now }
         ensures { IsVerdict self.now.setting self.now.machine ticket.now end.now result }
@@ -120,7 +203,8 @@ impl SchedCore {
         judge(clean, end)
     }
 
-    /// Ends a pass that runs. Where it is void its attempt is tried again in mode firm.
+    /// Ends a pass that runs. Where it is void its attempt is tried again in mode firm. It goes over the
+    /// slots for the counts and for the end of the round, and once more where a round begins.
     pub fn finish(&mut self, ticket: Ticket, end: PassEnd) -> FinishVerdict
         requires { IsRunning self.old.setting self.old.machine ticket }
         ensures setting { self.new.setting ≡ self.old.setting }
@@ -130,6 +214,7 @@ impl SchedCore {
     {
         let verdict = self.verdict(&ticket, &end);
         let slot = self.setting.slot_of(&ticket);
+        uncount_leaver(&self.setting, self.counts.as_mut_slice(), slot, ticket.mode);
         self.slots[slot] = slot_to_follow(&verdict);
         self.stopped = stopped_after(self.stopped, &end);
         let done = is_round_done(self.slots.as_slice(), self.stopped);
@@ -140,7 +225,7 @@ impl SchedCore {
         verdict
     }
 
-    /// Whether no round is left.
+    /// Whether no round is left. It looks at no slot.
     pub fn all_done(&self) -> bool
         ensures { IsTrue result ↔ IsAllDone self.now.setting self.now.machine }
     {
@@ -154,7 +239,7 @@ impl SchedCore {
         self.stopped
     }
 
-    /// How many passes run.
+    /// How many passes run. It goes over the slots once.
     pub fn running(&self) -> u32
         ensures { result ≡ running_count self.now.machine }
     {

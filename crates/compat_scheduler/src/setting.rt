@@ -1,3 +1,5 @@
+//! What a scheduler is set up with.
+
 ghost use Rattle.std.specs.Prelude.{◌≡◌, ◌==◌, if◌then◌else◌, ◌+◌, ◌*◌, ◌<◌, ◌≤◌, ◌%◌, ◌^◌, IfOk, length};
 ghost use Rattle.std.specs.List.{range_with_len};
 ghost use Rattle.compat_scheduler.specs.Settings.{action_of, beside, copies, one_slot_each};

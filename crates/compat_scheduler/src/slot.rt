@@ -1,3 +1,5 @@
+//! What becomes of an attempt of a round.
+
 use seuss_base::Level;
 
 /// What becomes of one attempt of a round, which has a slot of its own.

@@ -1,3 +1,5 @@
+//! The ticket of a pass, and the verdict on it.
+
 use seuss_base::Level;
 
 /// One pass of an attempt: its number in order of the starts, the number of the attempt, the action

@@ -1,3 +1,5 @@
+//! The variables that a procedure tests at its entry.
+
 ghost use Rattle.std.specs.Prelude.{◌≡◌};
 ghost use Rattle.std.specs.List.{list_any};
 ghost use Rattle.effect_sets.specs.Masks.{early_mask, head_mask, add_tested, tested_mask, is_early};

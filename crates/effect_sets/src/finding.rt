@@ -1,3 +1,5 @@
+//! The effects of a procedure, from its code.
+
 ghost use Rattle.std.specs.Prelude.{◌≡◌, ℕ, Some, None, slice_get};
 ghost use Rattle.seuss_program.specs.declared.program.Program.{Program};
 ghost use Rattle.seuss_program.specs.declared.tree.Ref.{Ref};

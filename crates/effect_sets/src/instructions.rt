@@ -1,3 +1,5 @@
+//! The variables that instructions read and write.
+
 ghost use Rattle.std.specs.Prelude.{◌≡◌};
 ghost use Rattle.std.specs.List.{list_any};
 ghost use Rattle.effect_sets.specs.Masks.{read_mask, written_mask, add_read, add_written, is_call, is_again};

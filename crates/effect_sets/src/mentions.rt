@@ -1,3 +1,5 @@
+//! The variables that expressions mention, as sets of bits.
+
 ghost use Rattle.std.specs.Prelude.{◌≡◌};
 ghost use Rattle.effect_sets.specs.Masks.{bit as bit_for, name_mask, bound_mask, mask, add_masks};
 

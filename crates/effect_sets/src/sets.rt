@@ -1,3 +1,5 @@
+//! What is told of a procedure: three sets of variables and three flags.
+
 /// What a procedure does with the variables of its cat, and of what it consists. In a set the bit of
 /// value 2^v says that variable v, from 0 in the order of the text, is in it.
 #[derive(Clone, Copy, Debug, PartialEq, Eq)]

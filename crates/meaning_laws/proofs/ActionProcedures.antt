@@ -41,6 +41,7 @@ record Among (box first : ℕ) (qs : List (Proc Ref)) (a : ActionInfo) : Type 0 
   box_is : a.box_number ≡ box
   number : a.procedure ≡ first + place
 
+-- an action among those of a box is an action procedure of the box
 among : (box first : ℕ) (qs : List (Proc Ref)) (n : ℕ) (a : ActionInfo) →
     slice_get (actions_among box first qs) n ≡ Some a → Among box first qs a
 among box first [] n a h = absurd (none-some a h)
@@ -86,6 +87,7 @@ record Boxed (cats : List (Cat Ref)) (first : ℕ) (boxes : List BoxInfo) (a : A
   there : slice_get boxes place ≡ Some info
   action : Among (first + place) 0 (procedures_in (slice_get cats info.cat)) a
 
+-- an action among those of boxes is an action procedure of one of them
 boxed : (cats : List (Cat Ref)) (first : ℕ) (boxes : List BoxInfo) (n : ℕ) (a : ActionInfo) →
     slice_get (actions_of cats first boxes) n ≡ Some a → Boxed cats first boxes a
 boxed cats first [] n a h = absurd (none-some a h)
@@ -116,6 +118,7 @@ boxed cats first (b ∷ bs) n a h =
         }
 
 module _ (p : Program) (keeps : Keeps p) where
+  -- each action of a program performs an action procedure of a box
   performs : (n : ℕ) (a : ActionInfo) → slice_get p.actions n ≡ Some a → Performs p a.box_number a.procedure
   performs n a h =
       let b = boxed p.cats 0 p.boxes n a (subst (λ l. slice_get l n ≡ Some a) keeps.actions h) in
@@ -152,6 +155,7 @@ module _ (p : Program) (keeps : Keeps p) where
       and-then-some (λ (c : Cat Ref). slice_get c.procs number) (cat_of p box) a.procedure a.there in
       (keeps-procedure p keeps box at.0 at.1 number a.procedure a.there).alone a.form
 
+  -- the attempt of an action keeps the form of states
   pub action-form : (action : ℕ) (state : State) (budget : ℕ) → HasForm p state →
       HasForm p (action_attempt p (slice_get p.actions action) state budget).state
   action-form action state budget form = by (slice_get p.actions action) refl
@@ -166,6 +170,7 @@ module _ (p : Program) (keeps : Keeps p) where
           (subst (AreOf []) (sym (ap param_kinds (alone a.box_number a.procedure q).0)) none-are)
           form).state_is
 
+  -- the attempt of an action has no result
   pub action-result : (action : ℕ) (state : State) (budget : ℕ) →
       (action_attempt p (slice_get p.actions action) state budget).result ≡ None
   action-result action state budget = by (slice_get p.actions action) refl
@@ -186,6 +191,7 @@ module _ (p : Program) (keeps : Keeps p) where
           (suc (level_of p a.box_number)) a.box_number a.procedure q.procedure [] state budget q.there)
           (alone a.box_number a.procedure q).1
 
+  -- a run of actions keeps the form of states
   pub run-form : (actions : List ℕ) (state : State) (budget : ℕ) → HasForm p state →
       HasForm p (tight p actions state budget).state
   run-form [] state budget form = form

@@ -31,17 +31,21 @@ use Rattle.meaning_laws.specs.Kinds.{IsOf}
 use Rattle.meaning_laws.specs.Calls.{GoesDown, Matches}
 use Rattle.meaning_laws.proofs.ValueKinds.{Gives, value-gives}
 
+-- where both of two tests hold, the left one does
 pub and-left : (a b : Bool) → IsTrue (a && b) → IsTrue a
 and-left true b h = refl
 and-left false b h = h
 
+-- where both of two tests hold, the right one does
 pub and-right : (a b : Bool) → IsTrue (a && b) → IsTrue b
 and-right true b h = h
 and-right false b h = absurd (true≢false (sym h))
 
+-- nothing isn't something
 pub none-some : {A : Type 0} (x : A) → None ≡ Some x → ⊥
 none-some x h = cc
 
+-- what two equal options have is the same
 pub some-same : {A : Type 0} {x y : A} → Some x ≡ Some y → x ≡ y
 some-same h = cc
 
@@ -56,6 +60,7 @@ pub all-at : {A : Type 0} (P : A → Type 0) (xs : List A) (n : ℕ) (x : A) →
     All P xs → P x
 all-at P xs n x h all = subst P (get_or_from_slice_get xs n x x h) (all n x (slice_get_within xs n x h))
 
+-- what is of a kind has it
 pub is-of-some : (k : Kind) (o : Option Kind) → IsTrue (is_of k o) → o ≡ Some k
 is-of-some k None h = absurd (true≢false (sym h))
 is-of-some k (Some j) h = ap (λ x. Some x) (same k j h)
@@ -80,6 +85,7 @@ cat-named cats (R.Slot k) d h = absurd (none-some d h)
 cat-named cats (R.Given k) d h = absurd (none-some d h)
 cat-named cats (R.Method k) d h = absurd (none-some d h)
 
+-- the name of a given box is its number among the given ones
 given-named : (s : Scope) (name : Ref) (d : Cat Ref) → given_cat s name ≡ Some d →
     (n : ℕ) × (name
     ≡ R.Given n) × (option_and_then (λ (g : Given Ref). cat_at s.cats g.cat) (slice_get s.given n) ≡ Some d)
@@ -89,6 +95,7 @@ given-named s (R.Slot k) d h = absurd (none-some d h)
 given-named s (R.Method k) d h = absurd (none-some d h)
 given-named s (R.Cat k) d h = absurd (none-some d h)
 
+-- the name of a method is its number in the cat
 method-named : (name : Ref) (d : Cat Ref) (r : Proc Ref) → method_at name d ≡ Some r →
     (name ≡ R.Method (method_of name)) × (slice_get d.procs (method_of name) ≡ Some r)
 method-named (R.Method k) d r h = (refl, h)
@@ -103,6 +110,7 @@ box-there : (o : Option BoxInfo) (k : ℕ) → IsTrue (is_box_of o (R.Cat k)) �
 box-there None k h = absurd (true≢false (sym h))
 box-there (Some b) k h = (b, refl, grind (arith, h))
 
+-- the box that is given in a place is of the cat that is declared in this place
 box-given : (boxes : List BoxInfo) (ns : List ℕ) (gs : List (Given Ref)) (n : ℕ) (g : Given Ref) →
     IsTrue (given_fit boxes ns gs) → slice_get gs n ≡ Some g →
     (t : ℕ) × (slice_get ns n ≡ Some t) × IsTrue (is_box_of (slice_get boxes t) g.cat)
@@ -118,6 +126,7 @@ box-given boxes (t ∷ ns) (x ∷ gs) zero g h e = (
 box-given boxes (t ∷ ns) (x ∷ gs) (suc n) g h e =
     box-given boxes ns gs n g (and-right (is_box_of (slice_get boxes t) x.cat) (given_fit boxes ns gs) h) e
 
+-- a number is below what is above a list that has it
 below-above : (f : ℕ → ℕ) (ns : List ℕ) (n t : ℕ) → slice_get ns n ≡ Some t → f t < above (map f ns)
 below-above f [] n t h = absurd (none-some t h)
 below-above f (x ∷ ns) zero t h = subst (λ y. f y < above (map f (x ∷ ns))) (some-same h) (omega arith)
@@ -128,18 +137,22 @@ module _ (p : Program) (keeps : Keeps p) (box : ℕ) (c : Cat Ref) (at : cat_of 
   pub the-box : (b : BoxInfo) × (slice_get p.boxes box ≡ Some b) × (slice_get p.cats b.cat ≡ Some c)
   the-box = and-then-some (λ (b : BoxInfo). slice_get p.cats b.cat) (slice_get p.boxes box) c at
 
+  -- the cat of a box is a checked one
   keeps-cat : KeepsCat p.cats c
   keeps-cat = all-at (KeepsCat p.cats) p.cats the-box.0.cat c the-box.2 keeps.cats
 
+  -- the box is a checked one
   keeps-box : KeepsBox p the-box.0
   keeps-box = all-at (KeepsBox p) p.boxes box the-box.0 the-box.1 keeps.boxes
 
+  -- each procedure of the box is a checked one
   pub keeps-procedure : (number : ℕ) (q : Proc Ref) → procedure_of p box number ≡ Some q →
       KeepsProcedure p.cats c q
   keeps-procedure number q there =
       all-at (KeepsProcedure p.cats c) c.procs number q
       (ap (option_and_then (λ (d : Cat Ref). slice_get d.procs number)) (sym at) ∙ there) keeps-cat.procs
 
+  -- a procedure of the cat of a box is one of the box
   procedure-there : (b : BoxInfo) (d : Cat Ref) (target number : ℕ) (r : Proc Ref) →
       slice_get p.boxes target ≡ Some b → slice_get p.cats b.cat ≡ Some d →
       slice_get d.procs number ≡ Some r →
@@ -179,6 +192,7 @@ module _ (p : Program) (keeps : Keeps p) (box : ℕ) (c : Cat Ref) (at : cat_of 
         form_is = fits;
       }
 
+  -- a call of a checked text goes to a procedure of a lower box
   pub goes-down : (q : Proc Ref) (form : Form Ref → Bool) (call : Call Ref) (r : Proc Ref) →
       called (scope_of p.cats c q) call ≡ Some r → IsTrue (form r.form) → GoesDown p form box call r
   goes-down q form call r named fits =
@@ -221,6 +235,7 @@ one-more values kinds v k are is = record {
 -- arguments that fit are of the kinds of the parameters
 module _ (s : Scope) (vars slots : List Value) (typed_vars : AreOf vars s.vars)
     (typed_slots : AreOf slots s.slots) where
+  -- further arguments that fit are of the kinds of the further parameters
   args-after : (front : List Kind) (values : List Value) (es : List (Expr Ref)) (ks : List Kind) →
       AreOf values front → IsTrue (arguments_fit s es ks) →
       IfOk (arguments_after values es vars slots) (λ l. AreOf l (front ++ ks))
@@ -247,6 +262,7 @@ module _ (s : Scope) (vars slots : List Value) (typed_vars : AreOf vars s.vars)
 
 module _ (s : Scope) (form : Form Ref → Bool) (bind : Option Ref) (call : Call Ref)
     (fits : IsTrue (call_fits s form bind call)) where
+  -- a call that fits names a procedure
   pub call-named : (r : Proc Ref) × (called s call ≡ Some r)
   call-named = by (called s call) fits
     where
@@ -255,14 +271,17 @@ module _ (s : Scope) (form : Form Ref → Bool) (bind : Option Ref) (call : Call
       by (Some r) h = (r, refl)
 
   module _ (r : Proc Ref) (named : called s call ≡ Some r) where
+    -- the procedure that is named meets the call
     meets-it : IsTrue (meets s form bind call.args (Some r))
     meets-it = subst (λ o. IsTrue (meets s form bind call.args o)) named fits
 
+    -- the procedure that is named is of the wanted form
     pub form-is : IsTrue (form r.form)
     form-is =
         and-left (form r.form)
         (arguments_fit s call.args (param_kinds r.params) && bind_fits s bind r.gives) meets-it
 
+    -- arguments and result of a call match the procedure that is named
     pub call-matches : Matches s bind call r
     call-matches =
         let both =

@@ -29,6 +29,7 @@ module _ (p : Program) (callee : Callee) (box : ℕ) (q : Proc Ref) where
   judged-false (Ok v) a others state slots budget h =
       ap (λ b. if b then chosen p callee box q a a.pre state slots budget else others) h
 
+  -- an alternative whose precondition is true is chosen
   judged-true : (ev : Evaluated) (a : Alternative Ref) (others : Called) (state : State) (slots : List Value)
       (budget : ℕ) → IsBool true ev →
       judged p callee box q ev a others state slots budget ≡ chosen p callee box q a a.pre state slots budget
@@ -37,6 +38,7 @@ module _ (p : Program) (callee : Callee) (box : ℕ) (q : Proc Ref) where
       ap (λ b. if b then chosen p callee box q a a.pre state slots budget else others) h
 
   module _ (state : State) (slots : List Value) (budget : ℕ) where
+    -- where no precondition is true the choice is rejected
     choice-none : (alts : List (Alternative Ref)) → NoneHolds alts (vars_of state box) slots →
         choice p callee box q alts state slots budget ≡ ended O.Rejected state budget
     choice-none [] none = refl
@@ -44,6 +46,7 @@ module _ (p : Program) (callee : Callee) (box : ℕ) (q : Proc Ref) where
         judged-false (value a.cond (vars_of state box) slots) a
         (choice p callee box q alts state slots budget) state slots budget none.0 ∙ choice-none alts none.1
 
+    -- after false preconditions the first true one is chosen
     choice-after : (before after : List (Alternative Ref)) (a : Alternative Ref) →
         NoneHolds before (vars_of state box) slots → IsBool true (value a.cond (vars_of state box) slots) →
         choice p callee box q (before ++ a ∷ after) state slots budget
@@ -56,6 +59,7 @@ module _ (p : Program) (callee : Callee) (box : ℕ) (q : Proc Ref) where
         (choice p callee box q (before ++ a ∷ after) state slots budget) state slots budget none.0
         ∙ choice-after before after a none.1 holds
 
+    -- the alternative that is the first true one is chosen
     pub choice-chosen : (alts : List (Alternative Ref)) (a : Alternative Ref) →
         IsChosen alts (vars_of state box) slots a →
         choice p callee box q alts state slots budget ≡ chosen p callee box q a a.pre state slots budget
@@ -63,6 +67,7 @@ module _ (p : Program) (callee : Callee) (box : ℕ) (q : Proc Ref) where
         ap (λ l. choice p callee box q l state slots budget) is.stands
         ∙ choice-after is.before is.after a is.none is.holds
 
+    -- a procedure with alternatives does what its choice does
     performed-choice : (f : Form Ref) (alts : List (Alternative Ref)) → alternatives_of f ≡ Some alts →
         performed p callee box q f state slots budget ≡ choice p callee box q alts state slots budget
     performed-choice (F.Total ss) alts h = absurd (cc)
@@ -82,12 +87,14 @@ module _ (p : Program) (callee : Callee) (box : ℕ) (q : Proc Ref) where
         ∙ (ap (λ (c : Called). behind_pre p callee box q a pre.bind c.outcome c slots) is
         ∙ ap (λ outcome. behind_pre p callee box q a pre.bind outcome before slots) rejected)
 
+  -- a precondition that traps ends the choice
   judged-trap : (ev : Evaluated) (t : Trap) (a : Alternative Ref) (others : Called) (state : State)
       (slots : List Value) (budget : ℕ) → ev ≡ Err t →
       judged p callee box q ev a others state slots budget ≡ ended (O.Trapped t) state budget
   judged-trap ev t a others state slots budget h =
       ap (λ x. judged p callee box q x a others state slots budget) h
 
+  -- after false preconditions one that traps ends the choice
   choice-traps : (before after : List (Alternative Ref)) (a : Alternative Ref) (t : Trap) (state : State)
       (slots : List Value) (budget : ℕ) → NoneHolds before (vars_of state box) slots →
       value a.cond (vars_of state box) slots ≡ Err t →
@@ -107,6 +114,7 @@ Decided alts vars slots =
     slots ⊎ (((a : Alternative Ref) × IsChosen alts vars slots a) ⊎ ((t : Trap) × IsTrapped alts vars slots
     t))
 
+-- no precondition is true, or one is the first that is true or traps
 pub decided : (alts : List (Alternative Ref)) (vars slots : List Value) → Decided alts vars slots
 decided [] vars slots = inl tt
 decided (a ∷ alts) vars slots = by (value a.cond vars slots) refl (decided alts vars slots)
@@ -170,6 +178,7 @@ attempt-choice p depth box number q alts args state budget there form =
     ap (λ o. attempt_of p (attempt p depth) box o args state budget) there
     ∙ performed-choice p (attempt p depth) box q state (entry_slots q args) budget q.form alts form
 
+-- an attempt without a true precondition is rejected
 pub attempt-none : (p : Program) (depth box number : ℕ) (q : Proc Ref) (alts : List (Alternative Ref))
     (args : List Value) (state : State) (budget : ℕ) → procedure_of p box number ≡ Some q →
     alternatives_of q.form ≡ Some alts → NoneHolds alts (vars_of state box) (entry_slots q args) →
@@ -179,6 +188,7 @@ attempt-none p (suc depth) box number q alts args state budget there form none =
     attempt-choice p depth box number q alts args state budget there form
     ∙ choice-none p (attempt p depth) box q state (entry_slots q args) budget alts none
 
+-- an attempt does what the chosen alternative does
 pub attempt-chosen : (p : Program) (depth box number : ℕ) (q : Proc Ref) (alts : List (Alternative Ref))
     (a : Alternative Ref) (args : List Value) (state : State) (budget : ℕ) →
     procedure_of p box number ≡ Some q →
@@ -189,6 +199,7 @@ attempt-chosen p depth box number q alts a args state budget there form is =
     attempt-choice p depth box number q alts args state budget there form
     ∙ choice-chosen p (attempt p depth) box q state (entry_slots q args) budget alts a is
 
+-- an attempt ends with the trap of its precondition
 pub attempt-traps : (p : Program) (depth box number : ℕ) (q : Proc Ref) (alts : List (Alternative Ref))
     (t : Trap) (args : List Value) (state : State) (budget : ℕ) → procedure_of p box number ≡ Some q →
     alternatives_of q.form ≡ Some alts → IsTrapped alts (vars_of state box) (entry_slots q args) t →
@@ -199,6 +210,7 @@ attempt-traps p depth box number q alts t args state budget there form is =
     ∙ choice-traps p (attempt p depth) box q is.before is.after is.trapping t state
     (entry_slots q args) budget is.none is.traps)
 
+-- an attempt whose preprocedure is rejected is rejected
 pub attempt-rejected : (p : Program) (depth box number : ℕ) (q : Proc Ref) (args : List Value)
     (state : State) (budget : ℕ) (left : Called) → procedure_of p box number ≡ Some q →
     PreRejects p depth box q args state budget left →

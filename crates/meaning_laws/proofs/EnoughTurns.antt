@@ -18,6 +18,7 @@ use Rattle.meaning_laws.proofs.SpentBudgets.{NeverRaises, body-never}
 module _ (box : ℕ) (cond : Expr Ref) (turn : Meaning)
     (never : (state : State) (slots : List Value) (budget : ℕ) →
     (turn state slots budget).budget ≤ budget) where
+  -- meanings that are the same here are the same under a condition
   branched-same : (ev : Evaluated) (m n : Meaning) (state : State) (slots : List Value) (budget : ℕ) →
       m state slots budget ≡ n state slots budget →
       branched ev m stay state slots budget ≡ branched ev n stay state slots budget
@@ -30,6 +31,7 @@ module _ (box : ℕ) (cond : Expr Ref) (turn : Meaning)
       by true = h
       by false = refl
 
+  -- meanings that are the same here are the same after a first step
   resumed-same : (finish : Finish) (ran : Ran) (m n : Meaning) →
       m ran.state ran.slots ran.budget ≡ n ran.state ran.slots ran.budget →
       resumed finish ran m ≡ resumed finish ran n
@@ -65,6 +67,7 @@ module _ (box : ℕ) (cond : Expr Ref) (turn : Meaning)
 module _ (p : Program) (callee : Callee) (box : ℕ) where
   module _ (never : NeverRaises callee) (cond : Expr Ref) (turn : List (Statement Ref)) (state : State)
       (slots : List Value) where
+    -- a loop is the same with any bound on its turns that isn't below its budget
     pub looped-enough : (turns budget : ℕ) → budget ≤ turns →
         looped box turns cond (body p callee box turn) state slots budget
         ≡ looped box budget cond (body p callee box turn) state slots budget
@@ -72,6 +75,7 @@ module _ (p : Program) (callee : Callee) (box : ℕ) where
         bounds-same box cond (body p callee box turn)
         (body-never p callee box never turn) turns budget state slots budget most (omega arith)
 
+    -- a loop statement is a loop with any such bound
     pub while-looped : (turns budget : ℕ) → budget ≤ turns →
         statement p callee box (While cond turn) state slots budget
         ≡ looped box turns cond (body p callee box turn) state slots budget

@@ -32,6 +32,7 @@ Small values = All HasSize values
 no-values : Small []
 no-values = All-nil HasSize
 
+-- a single value of 64 bits
 one-value : (v : Value) → HasSize v → Small (v ∷ [])
 one-value v h = All-cons HasSize v [] h no-values
 
@@ -68,6 +69,7 @@ module _ (X : Type 0) (f : X → Statement Ref) (each_small : (x : X) → SmallL
       All-append HasSize (locals_of (f x)) (flat_map (λ vs. vs) (each locals_of (each f xs)))
       (each_small x) (inner xs)
 
+  -- the locals of a statement begin with values of 64 bits where those inside it do
   layer : (y : Statement-F Ref X) →
       SmallLocals (roll-Statement Ref (map-Statement Ref X (Statement Ref) f y))
   layer (S.Let name kind e) =
@@ -87,6 +89,7 @@ statement-locals =
     ind-Statement Ref SmallLocals
     (λ x y is. subst (λ z. SmallLocals (roll-Statement Ref z)) is (layer _ (λ e. e.0) (λ e. e.1) y))
 
+-- the locals of a body begin with values of 64 bits
 body-locals : (ss : List (Statement Ref)) → Small (flat_map locals_of ss)
 body-locals [] = no-values
 body-locals (s ∷ ss) =
@@ -114,6 +117,7 @@ each-locals (a ∷ alts) =
     (All-append HasSize (bound_local a.pre) (flat_map locals_of a.body) (pre-local a.pre)
     (body-locals a.body)) (each-locals alts)
 
+-- the locals of a procedure begin with values of 64 bits
 text-locals : (form : Form Ref) → Small (form_locals form)
 text-locals (F.Total ss) = body-locals ss
 text-locals (F.Partial alts) = each-locals alts

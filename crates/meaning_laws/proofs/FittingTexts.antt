@@ -28,6 +28,7 @@ use Rattle.meaning_laws.proofs.KeptBodies.{each, Each, Kept, KeptCall, Put, Ends
 use Rattle.meaning_laws.proofs.KeptBodies.{statement-kept, body-kept, total-outs, choice-outs}
 use Rattle.meaning_laws.proofs.CalledProcedures.{and-left, and-right, some-same, is-of-some}
 
+-- whether a statement fits is told by its layer
 pub fits-layer : (s : Scope) (d : Statement-F Ref (Statement Ref)) →
     statement_fits s (roll-Statement Ref d)
     ≡ K.statement_step s (map-Statement Ref (Statement Ref) Bool (statement_fits s) d)
@@ -35,13 +36,16 @@ unfolding statement_fits
 fits-layer s d = fold-roll-Statement Ref Bool (K.statement_step s) d
 
 module _ (s : Scope) where
+  -- a statement fits
   abbrev pub Fits : Statement Ref → Type 0
   Fits t = IsTrue (statement_fits s t)
 
+  -- the layer of a statement that fits does
   layer-fits : (d : Statement-F Ref (Statement Ref)) → Fits (roll-Statement Ref d) →
       IsTrue (K.statement_step s (map-Statement Ref (Statement Ref) Bool (statement_fits s) d))
   layer-fits d fits = subst (λ b. IsTrue b) (fits-layer s d) fits
 
+  -- statements of which each fits
   all-fit : (ts : List (Statement Ref)) → IsTrue (all_true (each (statement_fits s) ts)) → Each Fits ts
   all-fit [] fits = tt
   all-fit (t ∷ ts) fits = (
@@ -49,6 +53,7 @@ module _ (s : Scope) where
     all-fit ts (and-right (statement_fits s t) (all_true (each (statement_fits s) ts)) fits),
   )
 
+  -- each statement of a body that fits does
   pub body-fit : (ts : List (Statement Ref)) → IsTrue (body_fits s ts) → Each Fits ts
   body-fit [] fits = tt
   body-fit (t ∷ ts) fits = (
@@ -62,6 +67,7 @@ module _ (s : Scope) where
     pub name_is : kind_set s name ≡ Some kind
     pub value_is : kind_in s e ≡ Some kind
 
+  -- a `let` that fits assigns a value of its kind
   let-assigns : (name : Ref) (kind : Kind) (e : Expr Ref) → Fits (roll-Statement Ref (S.Let name kind e)) →
       Assigns name e
   let-assigns name kind e fits =
@@ -76,6 +82,7 @@ module _ (s : Scope) where
             (and-right (is_of kind (kind_set s name)) (is_of kind (kind_in s e)) both);
       }
 
+  -- an assignment that fits assigns a value of the kind of its name
   assign-assigns : (name : Ref) (e : Expr Ref) → Fits (roll-Statement Ref (S.Assign name e)) → Assigns name e
   assign-assigns name e fits = by (kind_set s name) refl (layer-fits (S.Assign name e) fits)
     where
@@ -94,6 +101,7 @@ module _ (s : Scope) where
 
   -- What keeps a fact at assignments and calls that fit.
   module _ (p : Program) (callee : Callee) (box : ℕ) (Fact : State → List Value → ℕ → Type 0) where
+    -- what keeps a fact: payments, assigned values and calls
     pub record Keeping : Type 0 where
       pub paid : (state : State) (slots : List Value) (left : ℕ) → Fact state slots (suc left) →
           Fact state slots left
@@ -103,6 +111,7 @@ module _ (s : Scope) where
           IsTrue (call_fits s form bind call) → KeptCall p callee box Fact bind call
 
     module _ (keeping : Keeping) where
+      -- what keeps a fact keeps it at each statement that fits
       rules : Rules p callee box Fact Fits
       rules = record {
         paid = keeping.paid;
@@ -123,13 +132,16 @@ module _ (s : Scope) where
             (layer-fits (S.While cond turn) fits));
       }
 
+      -- a statement that fits keeps the fact
       pub statement-keeps : (t : Statement Ref) → Fits t → Kept p callee box Fact (statement p callee box t)
       statement-keeps = statement-kept p callee box Fact Fits rules
 
+      -- a body that fits keeps the fact
       pub body-keeps : (ts : List (Statement Ref)) → IsTrue (body_fits s ts) →
           Kept p callee box Fact (body p callee box ts)
       body-keeps ts fits = body-kept p callee box Fact Fits rules ts (body-fit ts fits)
 
+      -- a preprocedure that fits keeps the fact
       early-kept : (o : Option (Pre Ref)) → IsTrue (pre_fits s o) → (pre : Pre Ref) → o ≡ Some pre →
           KeptCall p callee box Fact pre.bind pre.call
       early-kept None fits pre is = absurd (cc)
@@ -137,6 +149,7 @@ module _ (s : Scope) where
           subst (λ (x : Pre Ref). KeptCall p callee box Fact x.bind x.call) (some-same is)
           (keeping.call is_partial other.bind other.call fits)
 
+      -- each alternative that fits keeps the fact
       each-known : (alts : List (Alternative Ref)) → IsTrue (alternatives_fit s alts) →
           EachAlternative p callee box Fact Fits rules alts
       each-known [] fits = tt

@@ -32,6 +32,7 @@ use Rattle.seuss_program.specs.Attempts.{result_of}
 abbrev pub each : {A B : Type 0} → (A → B) → List A → List B
 each {A} {B} f xs = (former-Statement-If-1 Ref).map A B f xs
 
+-- what a statement means is told by its layer
 pub meaning-layer : (p : Program) (callee : Callee) (box : ℕ) (d : Statement-F Ref (Statement Ref)) →
     statement p callee box (roll-Statement Ref d)
     ≡ statement_step p callee box (map-Statement Ref (Statement Ref) Meaning (statement p callee box) d)
@@ -62,6 +63,7 @@ module _ (p : Program) (callee : Callee) (box : ℕ) (Fact : State → List Valu
         Fact called.state slots called.budget × Left
         (bound box bind called.result called.state slots called.budget)
 
+  -- the value of an expression is put where a name stands
   abbrev pub Put : Ref → Expr Ref → Meaning
   Put name e state slots budget =
       evaluated_into box name (value e (vars_of state box) slots) state slots budget
@@ -91,12 +93,14 @@ module _ (p : Program) (callee : Callee) (box : ℕ) (Fact : State → List Valu
     pub done : (state : State) (slots : List Value) (budget : ℕ) → Fact state slots budget →
         Out state (result_of q slots) budget
 
+  -- a fact that is left by a first step and kept by the next is left by both
   resumed-kept : (finish : Finish) (ran : Ran) (next : Meaning) → Left ran → Kept next →
       Left (resumed finish ran next)
   resumed-kept Done ran next h n = n.by ran.state ran.slots ran.budget h
   resumed-kept (Trapped t) ran next h n = h
   resumed-kept Spent ran next h n = h
 
+  -- a fact that is left by both branches is left by the choice
   branched-kept : (ev : Evaluated) (holds fails : Meaning) (state : State) (slots : List Value)
       (budget : ℕ) → Fact state slots budget → Left (holds state slots budget) →
       Left (fails state slots budget) →
@@ -109,6 +113,7 @@ module _ (p : Program) (callee : Callee) (box : ℕ) (Fact : State → List Valu
       by false = b
 
   module _ (Known : Statement Ref → Type 0) (rules : Rules Known) where
+    -- a fact that is kept by a turn and what follows is kept by a paid turn
     pay-kept : (turn next : Meaning) → Kept turn → Kept next →
         (state : State) (slots : List Value) (budget : ℕ) → Fact state slots budget →
         Left (paid_turn turn next state slots budget)
@@ -117,6 +122,7 @@ module _ (p : Program) (callee : Callee) (box : ℕ) (Fact : State → List Valu
         let ran = turn state slots left in
         resumed-kept ran.finish ran next (k.by state slots left (rules.paid state slots left h)) n
 
+    -- a fact that is kept by a turn is kept by a loop
     pub looped-kept : (turns : ℕ) (cond : Expr Ref) (turn : Meaning) → Kept turn →
         Kept (looped box turns cond turn)
     looped-kept zero cond turn k =
@@ -133,6 +139,7 @@ module _ (p : Program) (callee : Callee) (box : ℕ) (Fact : State → List Valu
               (pay-kept turn (looped box turns cond turn) k next state slots budget h) h;
         }
 
+    -- a fact that is kept by the callee is left by a call
     call-kept : (bind : Option Ref) (call : Call Ref) → KeptCall bind call →
         (state : State) (slots : List Value) (budget : ℕ) → Fact state slots budget →
         Left (call_with p callee box bind call
@@ -166,6 +173,7 @@ module _ (p : Program) (callee : Callee) (box : ℕ) (Fact : State → List Valu
     KeptSo : Statement Ref → Type 0
     KeptSo s = Known s → Kept (statement p callee box s)
 
+    -- a fact that is kept by the layer of a statement is kept by the statement
     layer-kept : (d : Statement-F Ref (Statement Ref)) →
         (Known (roll-Statement Ref d) →
         Kept (statement_step p callee box
@@ -175,6 +183,7 @@ module _ (p : Program) (callee : Callee) (box : ℕ) (Fact : State → List Valu
     layer-kept d h known = subst Kept (sym (meaning-layer p callee box d)) (h known)
 
     module _ (X : Type 0) (f : X → Statement Ref) (each_kept : (x : X) → KeptSo (f x)) where
+      -- a fact that is kept by each statement is kept by them in turn
       inner : (xs : List X) → Each Known (each f xs) →
           Kept (in_turn (each (statement p callee box) (each f xs)))
       unfolding KeptSo
@@ -186,6 +195,7 @@ module _ (p : Program) (callee : Callee) (box : ℕ) (Fact : State → List Valu
             ((each_kept x known.0).by state slots budget h) (inner xs known.1);
       }
 
+      -- a fact is kept by a statement where it is kept by those inside it
       layer : (y : Statement-F Ref X) → KeptSo (roll-Statement Ref (map-Statement Ref X (Statement Ref) f y))
       layer (S.Let name kind e) =
           layer-kept (S.Let name kind e) (λ known. record { by = (rules.let_put name kind e known).by })
@@ -210,12 +220,14 @@ module _ (p : Program) (callee : Callee) (box : ℕ) (Fact : State → List Valu
             (inner turn (rules.while_turn cond (each f turn) known))).by state slots budget h;
       })
 
+    -- a fact is kept by each known statement
     pub statement-kept : (s : Statement Ref) → Known s → Kept (statement p callee box s)
     unfolding KeptSo
     statement-kept =
         ind-Statement Ref KeptSo
         (λ x y is. subst (λ z. KeptSo (roll-Statement Ref z)) is (layer _ (λ e. e.0) (λ e. e.1) y))
 
+    -- a fact is kept by each known body
     pub body-kept : (ss : List (Statement Ref)) → Each Known ss → Kept (body p callee box ss)
     body-kept [] known = record { by = λ state slots budget h. h }
     body-kept (s ∷ ss) known = record {
@@ -230,15 +242,18 @@ module _ (p : Program) (callee : Callee) (box : ℕ) (Fact : State → List Valu
       pub early : (pre : Pre Ref) → a.pre ≡ Some pre → KeptCall pre.bind pre.call
       pub late : Each Known a.body
 
+    -- each alternative has a known preprocedure and a known body
     abbrev pub EachAlternative : List (Alternative Ref) → Type 0
     EachAlternative [] = Unit {0}
     EachAlternative (a ∷ alts) = KnownAlternative a × EachAlternative alts
 
     -- a fact on what an attempt leaves, which has no slots any more
     module _ (q : Proc Ref) (Out : State → Option ℤ → ℕ → Type 0) (ends : Ends q Out) where
+      -- the fact that an attempt is to leave where it ends
       abbrev pub Outs : Called → Type 0
       Outs called = Out called.state called.result called.budget
 
+      -- a body that leaves the fact leaves the fact of ends where it is finished
       finished-outs : (positive : Bool) (finish : Finish) (ran : Ran) → Left ran →
           Outs (finished positive q finish ran)
       finished-outs true Done ran h = ends.done ran.state ran.slots ran.budget h
@@ -248,6 +263,7 @@ module _ (p : Program) (callee : Callee) (box : ℕ) (Fact : State → List Valu
       finished-outs true Spent ran h = ends.none ran.state ran.slots ran.budget h
       finished-outs false Spent ran h = ends.none ran.state ran.slots ran.budget h
 
+      -- the body of a total method leaves the fact of ends
       pub total-outs : (ss : List (Statement Ref)) → Each Known ss →
           (state : State) (slots : List Value) (budget : ℕ) → Fact state slots budget →
           Outs (finished true q (body p callee box ss state slots budget).finish
@@ -256,6 +272,7 @@ module _ (p : Program) (callee : Callee) (box : ℕ) (Fact : State → List Valu
           let ran = body p callee box ss state slots budget in
           finished-outs true ran.finish ran ((body-kept ss known).by state slots budget h)
 
+      -- the body of an alternative leaves the fact of ends
       body-outs : (a : Alternative Ref) → Each Known a.body →
           (state : State) (slots : List Value) (budget : ℕ) → Fact state slots budget →
           Outs (body_of p callee box q a state slots budget)
@@ -263,6 +280,7 @@ module _ (p : Program) (callee : Callee) (box : ℕ) (Fact : State → List Valu
           let ran = body p callee box a.body state slots budget in
           finished-outs a.positive ran.finish ran ((body-kept a.body known).by state slots budget h)
 
+      -- the chosen alternative leaves the fact of ends
       chosen-outs : (a : Alternative Ref) → Each Known a.body → (o : Option (Pre Ref)) →
           ((pre : Pre Ref) → o ≡ Some pre → KeptCall pre.bind pre.call) →
           (state : State) (slots : List Value) (budget : ℕ) → Fact state slots budget →
@@ -271,15 +289,15 @@ module _ (p : Program) (callee : Callee) (box : ℕ) (Fact : State → List Valu
       chosen-outs a known (Some pre) early state slots budget h =
           by (arguments pre.call.args (vars_of state box) slots) refl
         where
-          behind : (outcome : Outcome) (called : Called) → Fact called.state slots called.budget →
+          after-early : (outcome : Outcome) (called : Called) → Fact called.state slots called.budget →
               Left (bound box pre.bind called.result called.state slots called.budget) →
               Outs (behind_pre p callee box q a pre.bind outcome called slots)
-          behind O.Accepted called a' b =
+          after-early O.Accepted called a' b =
               let ran = bound box pre.bind called.result called.state slots called.budget in
               body-outs a known ran.state ran.slots ran.budget b
-          behind O.Rejected called a' b = ends.none called.state slots called.budget a'
-          behind (O.Trapped t) called a' b = ends.none called.state slots called.budget a'
-          behind O.Spent called a' b = ends.none called.state slots called.budget a'
+          after-early O.Rejected called a' b = ends.none called.state slots called.budget a'
+          after-early (O.Trapped t) called a' b = ends.none called.state slots called.budget a'
+          after-early O.Spent called a' b = ends.none called.state slots called.budget a'
 
           by : (r : Result (List Value) Trap) → arguments pre.call.args (vars_of state box) slots ≡ r →
               Outs (pre_called p callee box q a pre r state slots budget)
@@ -288,8 +306,9 @@ module _ (p : Program) (callee : Callee) (box : ℕ) (Fact : State → List Valu
               let called =
               callee (target_of p box pre.call.target) (method_of pre.call.method) args state budget in
               let after = (early pre refl).by state slots budget args h is in
-              behind called.outcome called after.0 after.1
+              after-early called.outcome called after.0 after.1
 
+      -- an alternative that is judged leaves the fact of ends where all that may follow does
       judged-outs : (ev : Evaluated) (a : Alternative Ref) (others : Called) (state : State)
           (slots : List Value) (budget : ℕ) → Fact state slots budget →
           Outs (chosen p callee box q a a.pre state slots budget) → Outs others →
@@ -301,6 +320,7 @@ module _ (p : Program) (callee : Callee) (box : ℕ) (Fact : State → List Valu
           by true = first
           by false = rest
 
+      -- a choice leaves the fact of ends
       pub choice-outs : (alts : List (Alternative Ref)) → EachAlternative alts →
           (state : State) (slots : List Value) (budget : ℕ) → Fact state slots budget →
           Outs (choice p callee box q alts state slots budget)

@@ -72,6 +72,7 @@ vars-same state box n v within =
     (get_or-set_same state.boxes box (record { values = slice_set (vars_of state box) n v })
     (record { values = [] }) within)
 
+-- the variables of another box stay
 pub vars-other : (state : State) (box other n : ℕ) (v : Value) → other ≢ box →
     vars_of (with_var state box n v) other ≡ vars_of state other
 vars-other state box other n v differ =
@@ -85,6 +86,7 @@ box-within p box c at =
     let b = and-then-some (λ (b : BoxInfo). slice_get p.cats b.cat) (slice_get p.boxes box) c at in
     slice_get_within p.boxes box b.0 b.1
 
+-- the variables of a box have the kinds of its cat
 pub variable-kinds : (p : Program) (box : ℕ) (c : Cat Ref) → cat_of p box ≡ Some c → (state : State) →
     HasForm p state →
     AreOf (vars_of state box) (var_kinds c.vars)
@@ -104,18 +106,23 @@ pub record KeepsForm (p : Program) (callee : Callee) : Type 0 where
 
 module _ (p : Program) (keeps : Keeps p) (callee : Callee) (safe : KeepsForm p callee) (box : ℕ)
     (c : Cat Ref) (at : cat_of p box ≡ Some c) (q : Proc Ref) where
+  -- what the text of the procedure sees
   abbrev scope : Scope
   scope = scope_of p.cats c q
 
+  -- the state and the slots have their form
   abbrev Formed : State → List Value → ℕ → Type 0
   Formed state slots budget = AreFormed p q state slots
 
+  -- the box is there
   within : box < length p.boxes
   within = box-within p box c at
 
+  -- the variables of the box have their kinds
   vars-typed : (state : State) → HasForm p state → AreOf (vars_of state box) (var_kinds c.vars)
   vars-typed state form = variable-kinds p box c at state form
 
+  -- a state keeps its form where a variable is set to a value of its kind
   with-var-form : (state : State) (n : ℕ) (k : Kind) (v : Value) → HasForm p state →
       slice_get (var_kinds c.vars) n ≡ Some k → IsOf v k → HasForm p (with_var state box n v)
   with-var-form state n k v form there is = record {
@@ -137,6 +144,7 @@ module _ (p : Program) (keeps : Keeps p) (callee : Callee) (safe : KeepsForm p c
           subst (λ vs. AreOf vs (vars_in (cat_of p other))) (sym (vars-other state box other n v differ))
           (form.values other less)
 
+  -- an assigned value of the name's kind keeps the form
   assigned-formed : (name : Ref) (k : Kind) (v : Value) (state : State) (slots : List Value) (budget : ℕ) →
       kind_at scope name ≡ Some k → IsOf v k → AreFormed p q state slots →
       Left p callee box Formed (assigned box name v state slots budget)
@@ -148,6 +156,7 @@ module _ (p : Program) (keeps : Keeps p) (callee : Callee) (safe : KeepsForm p c
   assigned-formed (R.Method n) k v state slots budget there is h = h
   assigned-formed (R.Cat n) k v state slots budget there is h = h
 
+  -- an evaluated value of the name's kind keeps the form
   evaluated-formed : (name : Ref) (k : Kind) (ev : Evaluated) (state : State) (slots : List Value)
       (budget : ℕ) → kind_at scope name ≡ Some k → Gives ev k → AreFormed p q state slots →
       Left p callee box Formed (evaluated_into box name ev state slots budget)
@@ -155,6 +164,7 @@ module _ (p : Program) (keeps : Keeps p) (callee : Callee) (safe : KeepsForm p c
   evaluated-formed name k (Ok v) state slots budget there is h =
       assigned-formed name k v state slots budget there is h
 
+  -- a result of 64 bits that is bound keeps the form
   bound-formed : (bind : Option Ref) (result : Option ℤ) (state : State) (slots : List Value) (budget : ℕ) →
       ((name : Ref) → bind ≡ Some name → kind_set scope name ≡ Some K.Int) → IfSome result Fits →
       AreFormed p q state slots → Left p callee box Formed (bound box bind result state slots budget)
@@ -164,6 +174,7 @@ module _ (p : Program) (keeps : Keeps p) (callee : Callee) (safe : KeepsForm p c
       assigned-formed name K.Int (V.Int z) state slots budget
       (kind-set scope name K.Int (is name refl)) (refl, small) h
 
+  -- a call that fits keeps the form
   call-formed : (form : Form Ref → Bool) (bind : Option Ref) (call : Call Ref) →
       IsTrue (call_fits scope form bind call) → KeptCall p callee box Formed bind call
   call-formed form bind call fits = record {
@@ -188,6 +199,7 @@ module _ (p : Program) (keeps : Keeps p) (callee : Callee) (safe : KeepsForm p c
         );
   }
 
+  -- an expression of the name's kind keeps the form where it is put
   put-formed : (name : Ref) (e : Expr Ref) → Assigns scope name e →
       Kept p callee box Formed (Put p callee box Formed name e)
   put-formed name e a = record {
@@ -198,17 +210,21 @@ module _ (p : Program) (keeps : Keeps p) (callee : Callee) (safe : KeepsForm p c
         (vars-typed state h.state_is) h.slots_are e a.kind a.value_is) h;
   }
 
+  -- the form is kept by payments, assigned values and calls
   pub keeping-form : Keeping scope p callee box Formed
   keeping-form = record { paid = λ state slots left h. h; put = put-formed; call = call-formed }
 
+  -- a statement that fits keeps the form
   pub statement-formed : (t : Statement Ref) → IsTrue (statement_fits scope t) →
       Kept p callee box Formed (statement p callee box t)
   statement-formed t fits = statement-keeps scope p callee box Formed keeping-form t fits
 
+  -- a body that fits keeps the form
   pub body-formed : (ts : List (Statement Ref)) → IsTrue (body_fits scope ts) →
       Kept p callee box Formed (body p callee box ts)
   body-formed ts fits = body-keeps scope p callee box Formed keeping-form ts fits
 
+  -- where a procedure ends with the form, its result has 64 bits
   ends-formed : Ends p callee box Formed q (λ state result budget. ReturnsFormed p state result)
   ends-formed = record {
     none = λ state slots budget h. record { state_is = h.state_is; result_is = tt };
@@ -217,6 +233,7 @@ module _ (p : Program) (keeps : Keeps p) (callee : Callee) (safe : KeepsForm p c
         record { state_is = h.state_is; result_is = result-fits q slots h.slots_are.sizes };
   }
 
+  -- a procedure keeps the form where its callee does
   pub procedure-formed : (number : ℕ) (args : List Value) (state : State) (budget : ℕ) →
       procedure_of p box number ≡ Some q → AreOf args (param_kinds q.params) → HasForm p state →
       let called = attempt_of p callee box (Some q) args state budget in
@@ -227,6 +244,7 @@ module _ (p : Program) (keeps : Keeps p) (callee : Callee) (safe : KeepsForm p c
       (keeps-procedure p keeps box c at number q there).text state (entry_slots q args) budget
       (record { state_is = form; slots_are = entry-kinds q args typed })
 
+-- attempts of every depth keep the form
 pub attempt-keeps-form : (p : Program) → Keeps p → (depth : ℕ) → KeepsForm p (attempt p depth)
 attempt-keeps-form p keeps zero =
     record {

@@ -1,14 +1,17 @@
+-- Lemmas of the laws, by subject.
 pub mod ActionProcedures
 pub mod CalledProcedures
 pub mod ChosenAlternatives
 pub mod EnoughTurns
 pub mod ExpressionMeanings
+pub mod FewLevels
 pub mod FirstValues
 pub mod FittingNumbers
 pub mod FittingTexts
 pub mod KeptBodies
 pub mod KeptForms
 pub mod LowerCalls
+pub mod OperandMeanings
 pub mod OtherBoxes
 pub mod Results
 pub mod SpentBudgets

@@ -47,9 +47,11 @@ module _ (p : Program) (f g : Callee) (box : ℕ) where
         ≡ g (target_of p box call.target) (method_of call.method)
 
   module _ (s : Scope) (same : Same s) where
+    -- a statement that fits is the same with both callees
     SameSo : Statement Ref → Type 0
     SameSo t = IsTrue (statement_fits s t) → statement p f box t ≡ statement p g box t
 
+    -- a statement is the same where its layer is
     layer-same : (d : Statement-F Ref (Statement Ref)) →
         (IsTrue (K.statement_step s (map-Statement Ref (Statement Ref) Bool (statement_fits s) d)) →
         statement_step p f box (map-Statement Ref (Statement Ref) Meaning (statement p f box) d)
@@ -66,6 +68,7 @@ module _ (p : Program) (f g : Callee) (box : ℕ) where
         call_with p (λ target method. h) box bind call
         (arguments call.args (vars_of state box) slots) state slots budget
 
+    -- a call that fits is the same
     call-same : (bind : Option Ref) (call : Call Ref) → IsTrue (call_fits s is_total bind call) →
         statement_step p f box (S.Call bind call) ≡ statement_step p g box (S.Call bind call)
     call-same bind call fits =
@@ -95,6 +98,7 @@ module _ (p : Program) (f g : Callee) (box : ℕ) where
             (λ budget. at g (arguments call.args (vars_of state box) slots) state slots budget)))
 
     module _ (X : Type 0) (h : X → Statement Ref) (each_same : (x : X) → SameSo (h x)) where
+      -- statements that fit are the same, one by one
       inner : (xs : List X) → IsTrue (all_true (each (statement_fits s) (each h xs))) →
           each (statement p f box) (each h xs) ≡ each (statement p g box) (each h xs)
       unfolding SameSo
@@ -109,6 +113,7 @@ module _ (p : Program) (f g : Callee) (box : ℕ) where
           ap (λ m. m ∷ each (statement p f box) (each h xs)) first
           ∙ ap (λ ms. statement p g box (h x) ∷ ms) rest
 
+      -- a statement is the same where those inside it are
       layer : (y : Statement-F Ref X) → SameSo (roll-Statement Ref (map-Statement Ref X (Statement Ref) h y))
       layer (S.Let name kind e) = layer-same (S.Let name kind e) (λ fits. refl)
       layer (S.Assign name e) = layer-same (S.Assign name e) (λ fits. refl)
@@ -134,6 +139,7 @@ module _ (p : Program) (f g : Callee) (box : ℕ) where
           (and-right (is_of KV.Bool (kind_in s cond))
           (all_true (each (statement_fits s) (each h turn))) fits)))
 
+    -- each statement that fits is the same
     statement-same : (t : Statement Ref) → IsTrue (statement_fits s t) →
         statement p f box t ≡ statement p g box t
     unfolding SameSo
@@ -141,6 +147,7 @@ module _ (p : Program) (f g : Callee) (box : ℕ) where
         ind-Statement Ref SameSo
         (λ x y is. subst (λ z. SameSo (roll-Statement Ref z)) is (layer _ (λ e. e.0) (λ e. e.1) y))
 
+    -- each body that fits is the same
     body-same : (ts : List (Statement Ref)) → IsTrue (body_fits s ts) →
         (state : State) (slots : List Value) (budget : ℕ) →
         body p f box ts state slots budget ≡ body p g box ts state slots budget
@@ -158,17 +165,19 @@ module _ (p : Program) (f g : Callee) (box : ℕ) where
         (statement p g box t state slots budget) m) rest
 
     module _ (q : Proc Ref) where
+      -- the body of an alternative is the same
       body_of-same : (a : Alternative Ref) → IsTrue (body_fits s a.body) →
           (state : State) (slots : List Value) (budget : ℕ) →
           body_of p f box q a state slots budget ≡ body_of p g box q a state slots budget
       body_of-same a fits state slots budget =
           ap (λ (ran : Ran). finished a.positive q ran.finish ran) (body-same a.body fits state slots budget)
 
-      behind-same : (a : Alternative Ref) → IsTrue (body_fits s a.body) →
+      -- what follows a preprocedure is the same
+      after-same : (a : Alternative Ref) → IsTrue (body_fits s a.body) →
           (name : Option Ref) (called : Called) (slots : List Value) →
           behind_pre p f box q a name called.outcome called slots
           ≡ behind_pre p g box q a name called.outcome called slots
-      behind-same a fits name called slots = by called.outcome
+      after-same a fits name called slots = by called.outcome
         where
           by : (o : Outcome) →
               behind_pre p f box q a name o called slots ≡ behind_pre p g box q a name o called slots
@@ -179,6 +188,7 @@ module _ (p : Program) (f g : Callee) (box : ℕ) where
           by (O.Trapped t) = refl
           by O.Spent = refl
 
+      -- the chosen alternative is the same
       chosen-same : (a : Alternative Ref) → IsTrue (body_fits s a.body) → (o : Option (Pre Ref)) →
           IsTrue (pre_fits s o) → (state : State) (slots : List Value) (budget : ℕ) →
           chosen p f box q a o state slots budget ≡ chosen p g box q a o state slots budget
@@ -191,12 +201,13 @@ module _ (p : Program) (f g : Callee) (box : ℕ) where
               ≡ pre_called p g box q a pre r state slots budget
           by (Err t) = refl
           by (Ok args) =
-              behind-same a fits pre.bind
+              after-same a fits pre.bind
               (f (target_of p box pre.call.target) (method_of pre.call.method) args state budget) slots
               ∙ ap (λ (h : List Value → State → ℕ → Called). behind_pre p g box q a pre.bind
               (h args state budget).outcome (h args state budget) slots)
               (same.by is_partial pre.bind pre.call early)
 
+      -- an alternative that is judged is the same where all that may follow is
       judged-same : (ev : Evaluated) (a : Alternative Ref) (others those : Called) (state : State)
           (slots : List Value) (budget : ℕ) →
           chosen p f box q a a.pre state slots budget ≡ chosen p g box q a a.pre state slots budget →
@@ -211,6 +222,7 @@ module _ (p : Program) (f g : Callee) (box : ℕ) where
           by true = first
           by false = rest
 
+      -- a choice is the same
       choice-same : (alts : List (Alternative Ref)) → IsTrue (alternatives_fit s alts) →
           (state : State) (slots : List Value) (budget : ℕ) →
           choice p f box q alts state slots budget ≡ choice p g box q alts state slots budget
@@ -226,6 +238,7 @@ module _ (p : Program) (f g : Callee) (box : ℕ) where
           (choice-same alts
           (and-right (alternative_fits s a) (alternatives_fit s alts) fits) state slots budget)
 
+      -- a procedure is the same
       performed-same : (form : Form Ref) → IsTrue (form_fits s form) →
           (state : State) (slots : List Value) (budget : ℕ) →
           performed p f box q form state slots budget ≡ performed p g box q form state slots budget
@@ -243,6 +256,7 @@ module _ (p : Program) (keeps : Keeps p) where
   abbrev SameAt : ℕ → ℕ → Type 0
   SameAt depth box = (number : ℕ) → attempt p (suc depth) box number ≡ attempt p depth box number
 
+  -- one more depth changes nothing above the level of a box
   deeper-same : (depth box : ℕ) → level_of p box < depth → SameAt depth box
   deeper-same zero box less = absurd (omega (arith, less))
   deeper-same (suc depth) box less = with-lower (λ lower below. deeper-same depth lower below)
@@ -275,6 +289,7 @@ module _ (p : Program) (keeps : Keeps p) where
                     (method_of call.method);
               }
 
+  -- more depth changes nothing above the level of a box
   same-above : (more depth box number : ℕ) → level_of p box < depth →
       attempt p (more + depth) box number ≡ attempt p depth box number
   same-above zero depth box number less =
@@ -284,6 +299,7 @@ module _ (p : Program) (keeps : Keeps p) where
       ap (λ n. attempt p n box number) e
       ∙ (deeper-same (more + depth) box (omega (arith, less)) number ∙ same-above more depth box number less)
 
+  -- any depth above the level of a box is the same as the least one
   pub depth-enough : (depth box number : ℕ) → level_of p box < depth →
       attempt p depth box number ≡ attempt p (suc (level_of p box)) box number
   depth-enough depth box number less =

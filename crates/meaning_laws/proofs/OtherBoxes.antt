@@ -44,12 +44,15 @@ lower-differs p target other less same =
 module _ (p : Program) (keeps : Keeps p) (callee : Callee) (below : StaysBelow p callee) (box : ℕ)
     (c : Cat Ref) (at : cat_of p box ≡ Some c) (q : Proc Ref)
     (other : ℕ) (differ : other ≢ box) (higher : level_of p box ≤ level_of p other) (vars : List Value) where
+  -- what the text of the procedure sees
   abbrev scope : Scope
   scope = scope_of p.cats c q
 
+  -- the variables of the other box are as they were
   abbrev Kept_vars : State → List Value → ℕ → Type 0
   Kept_vars state slots budget = vars_of state other ≡ vars
 
+  -- an assigned value leaves the other box
   assigned-same : (name : Ref) (v : Value) (state : State) (slots : List Value) (budget : ℕ) →
       vars_of (assigned box name v state slots budget).state other ≡ vars_of state other
   assigned-same (R.Var n) v state slots budget = vars-other state box other n v differ
@@ -58,17 +61,20 @@ module _ (p : Program) (keeps : Keeps p) (callee : Callee) (below : StaysBelow p
   assigned-same (R.Method n) v state slots budget = refl
   assigned-same (R.Cat n) v state slots budget = refl
 
+  -- an evaluated value leaves the other box
   evaluated-same : (name : Ref) (ev : Evaluated) (state : State) (slots : List Value) (budget : ℕ) →
       vars_of (evaluated_into box name ev state slots budget).state other ≡ vars_of state other
   evaluated-same name (Err t) state slots budget = refl
   evaluated-same name (Ok v) state slots budget = assigned-same name v state slots budget
 
+  -- a bound result leaves the other box
   bound-same : (bind : Option Ref) (result : Option ℤ) (state : State) (slots : List Value) (budget : ℕ) →
       vars_of (bound box bind result state slots budget).state other ≡ vars_of state other
   bound-same None result state slots budget = refl
   bound-same (Some name) None state slots budget = refl
   bound-same (Some name) (Some z) state slots budget = assigned-same name (V.Int z) state slots budget
 
+  -- a call that fits leaves the other box
   call-same : (form : Form Ref → Bool) (bind : Option Ref) (call : Call Ref) →
       IsTrue (call_fits scope form bind call) → KeptCall p callee box Kept_vars bind call
   call-same form bind call fits = record {
@@ -86,6 +92,7 @@ module _ (p : Program) (keeps : Keeps p) (callee : Callee) (below : StaysBelow p
         (after, bound-same bind called.result called.state slots called.budget ∙ after);
   }
 
+  -- the other box is left by payments, assigned values and calls
   keeping-vars : Keeping scope p callee box Kept_vars
   keeping-vars = record {
     paid = λ state slots left h. h;
@@ -98,6 +105,7 @@ module _ (p : Program) (keeps : Keeps p) (callee : Callee) (below : StaysBelow p
     call = call-same;
   }
 
+  -- a procedure leaves the other box where its callee leaves all that aren't lower
   pub procedure-same : (number : ℕ) (args : List Value) (state : State) (budget : ℕ) →
       procedure_of p box number ≡ Some q → vars_of state other ≡ vars →
       vars_of (attempt_of p callee box (Some q) args state budget).state other ≡ vars
@@ -107,6 +115,7 @@ module _ (p : Program) (keeps : Keeps p) (callee : Callee) (below : StaysBelow p
       (record { none = λ state slots budget h. h; done = λ state slots budget h. h }) q.form
       (keeps-procedure p keeps box c at number q there).text state (entry_slots q args) budget h
 
+-- attempts of every depth leave the boxes that aren't lower
 pub attempt-stays : (p : Program) → Keeps p → (depth : ℕ) → StaysBelow p (attempt p depth)
 attempt-stays p keeps zero = record { by = λ box number other args state budget differ higher. refl }
 attempt-stays p keeps (suc depth) = next (attempt-stays p keeps depth)
@@ -136,6 +145,7 @@ alternative-in s (b ∷ before) after a fits =
     alternative-in s before after a
     (and-right (alternative_fits s b) (alternatives_fit s (before ++ a ∷ after)) fits)
 
+-- the alternatives of a text that fits do
 alternatives-in : (s : Scope) (form : Form Ref) (alts : List (Alternative Ref)) → IsTrue (form_fits s form) →
     alternatives_of form ≡ Some alts → IsTrue (alternatives_fit s alts)
 alternatives-in s (F.Total ts) alts fits is = absurd (none-some alts is)

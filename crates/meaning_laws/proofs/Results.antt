@@ -32,12 +32,14 @@ use Rattle.meaning_laws.proofs.FittingNumbers.{Fits, all-or}
 use Rattle.meaning_laws.proofs.ValueKinds.{int-fits, kind-there, kind-stands}
 
 module _ (p : Program) (callee : Callee) (box : ℕ) (q : Proc Ref) where
+  -- there is a result exactly where the procedure gives one
   result-there : (b : Bool) (slots : List Value) →
       is_some (if b then Some (int_of (slice_index_or slots (length q.params) (V.Int (pos 0)))) else None)
       ≡ b
   result-there true slots = refl
   result-there false slots = refl
 
+  -- what is finished has a result where it should
   finished-has : (positive : Bool) (finish : Finish) (ran : Ran) →
       HasResult q (finished positive q finish ran)
   finished-has true Done ran = result-there q.gives ran.slots
@@ -47,21 +49,24 @@ module _ (p : Program) (callee : Callee) (box : ℕ) (q : Proc Ref) where
   finished-has true Spent ran = refl
   finished-has false Spent ran = refl
 
+  -- the body of an alternative has a result where it should
   body_of-has : (a : Alternative Ref) (state : State) (slots : List Value) (budget : ℕ) →
       HasResult q (body_of p callee box q a state slots budget)
   body_of-has a state slots budget =
       let ran = body p callee box a.body state slots budget in finished-has a.positive ran.finish ran
 
-  behind-has : (a : Alternative Ref) (name : Option Ref) (outcome : Outcome) (called : Called)
+  -- what follows a preprocedure has a result where it should
+  after-has : (a : Alternative Ref) (name : Option Ref) (outcome : Outcome) (called : Called)
       (slots : List Value) → HasResult q (behind_pre p callee box q a name outcome called slots)
-  behind-has a name O.Accepted called slots =
+  after-has a name O.Accepted called slots =
       let ran =
       bound box name called.result called.state slots called.budget in body_of-has a ran.state ran.slots
       ran.budget
-  behind-has a name O.Rejected called slots = refl
-  behind-has a name (O.Trapped t) called slots = refl
-  behind-has a name O.Spent called slots = refl
+  after-has a name O.Rejected called slots = refl
+  after-has a name (O.Trapped t) called slots = refl
+  after-has a name O.Spent called slots = refl
 
+  -- the chosen alternative has a result where it should
   chosen-has : (a : Alternative Ref) (o : Option (Pre Ref)) (state : State) (slots : List Value)
       (budget : ℕ) → HasResult q (chosen p callee box q a o state slots budget)
   chosen-has a None state slots budget = body_of-has a state slots budget
@@ -73,8 +78,9 @@ module _ (p : Program) (callee : Callee) (box : ℕ) (q : Proc Ref) where
       by (Ok args) =
           let called =
           callee (target_of p box pre.call.target) (method_of pre.call.method) args state budget in
-          behind-has a pre.bind called.outcome called slots
+          after-has a pre.bind called.outcome called slots
 
+  -- an alternative that is judged has a result where it should
   judged-has : (ev : Evaluated) (a : Alternative Ref) (others : Called) (state : State) (slots : List Value)
       (budget : ℕ) → HasResult q others → HasResult q (judged p callee box q ev a others state slots budget)
   judged-has (Err t) a others state slots budget rest = refl
@@ -84,6 +90,7 @@ module _ (p : Program) (callee : Callee) (box : ℕ) (q : Proc Ref) where
       by true = chosen-has a a.pre state slots budget
       by false = rest
 
+  -- a choice has a result where it should
   choice-has : (alts : List (Alternative Ref)) (state : State) (slots : List Value) (budget : ℕ) →
       HasResult q (choice p callee box q alts state slots budget)
   choice-has [] state slots budget = refl
@@ -91,6 +98,7 @@ module _ (p : Program) (callee : Callee) (box : ℕ) (q : Proc Ref) where
       judged-has (value a.cond (vars_of state box) slots) a
       (choice p callee box q alts state slots budget) state slots budget (choice-has alts state slots budget)
 
+  -- a procedure has a result where it should
   performed-has : (form : Form Ref) (state : State) (slots : List Value) (budget : ℕ) →
       HasResult q (performed p callee box q form state slots budget)
   performed-has (F.Total ts) state slots budget =
@@ -98,6 +106,7 @@ module _ (p : Program) (callee : Callee) (box : ℕ) (q : Proc Ref) where
   performed-has (F.Partial alts) state slots budget = choice-has alts state slots budget
   performed-has (F.Action alts) state slots budget = choice-has alts state slots budget
 
+-- an attempt has a result where it should
 pub attempt-has : (p : Program) (depth box number : ℕ) (q : Proc Ref) (args : List Value) (state : State)
     (budget : ℕ) → procedure_of p box number ≡ Some q →
     HasResult q (attempt p depth box number args state budget)
@@ -124,6 +133,7 @@ result-kind : (params : List Param) (rest : List Kind) →
 result-kind [] rest = refl
 result-kind (x ∷ params) rest = result-kind params rest
 
+-- the result is the int in its slot, which is there
 pub result-stands : (q : Proc Ref) (slots : List Value) → AreOf slots (slot_kinds q) → q.gives ≡ true →
     (z : ℤ) × (slice_get slots (length q.params) ≡ Some (V.Int z)) × (result_of q slots ≡ Some z)
 result-stands q slots has gives = by (slice_index_or slots (length q.params) (V.Int (pos 0))) refl

@@ -29,10 +29,12 @@ AtMost most state slots budget = budget ≤ most
 abbrev Any : Statement Ref → Type 0
 Any s = Unit {0}
 
+-- nothing is to be known of any statement
 any-each : (ss : List (Statement Ref)) → Each Any ss
 any-each [] = tt
 any-each (s ∷ ss) = (tt, any-each ss)
 
+-- an assigned value costs nothing
 assigned-free : (box : ℕ) (name : Ref) (v : Value) (state : State) (slots : List Value) (budget : ℕ) →
     (assigned box name v state slots budget).budget ≡ budget
 assigned-free box (R.Var n) v state slots budget = refl
@@ -41,11 +43,13 @@ assigned-free box (R.Given n) v state slots budget = refl
 assigned-free box (R.Method n) v state slots budget = refl
 assigned-free box (R.Cat n) v state slots budget = refl
 
+-- an evaluated value costs nothing
 evaluated-free : (box : ℕ) (name : Ref) (ev : Evaluated) (state : State) (slots : List Value) (budget : ℕ) →
     (evaluated_into box name ev state slots budget).budget ≡ budget
 evaluated-free box name (Err t) state slots budget = refl
 evaluated-free box name (Ok v) state slots budget = assigned-free box name v state slots budget
 
+-- a bound result costs nothing
 bound-free : (box : ℕ) (name : Option Ref) (result : Option ℤ) (state : State) (slots : List Value)
     (budget : ℕ) → (bound box name result state slots budget).budget ≡ budget
 bound-free box None result state slots budget = refl
@@ -58,6 +62,7 @@ pub record NeverRaises (callee : Callee) : Type 0 where
       (callee box number args state budget).budget ≤ budget
 
 module _ (p : Program) (callee : Callee) (box most : ℕ) (never : NeverRaises callee) where
+  -- a call leaves no more of the budget
   call-most : (bind : Option Ref) (call : Call Ref) → KeptCall p callee box (AtMost most) bind call
   call-most bind call = record {
     by = λ state slots budget args h is.
@@ -68,6 +73,7 @@ module _ (p : Program) (callee : Callee) (box most : ℕ) (never : NeverRaises c
         );
   }
 
+  -- a value that is put leaves no more of the budget
   put-most : (name : Ref) (e : Expr Ref) →
       Kept p callee box (AtMost most) (Put p callee box (AtMost most) name e)
   put-most name e =
@@ -76,6 +82,7 @@ module _ (p : Program) (callee : Callee) (box most : ℕ) (never : NeverRaises c
             (arith, h, evaluated-free box name (value e (vars_of state box) slots) state slots budget);
       }
 
+  -- every statement leaves no more of the budget
   rules-most : Rules p callee box (AtMost most) Any
   rules-most = record {
     paid = λ state slots left h. omega (arith, h);
@@ -87,6 +94,7 @@ module _ (p : Program) (callee : Callee) (box most : ℕ) (never : NeverRaises c
     while_turn = λ cond turn known. any-each turn;
   }
 
+  -- each alternative leaves no more of the budget
   any-alternatives : (alts : List (Alternative Ref)) →
       EachAlternative p callee box (AtMost most) Any rules-most alts
   any-alternatives [] = tt
@@ -95,9 +103,11 @@ module _ (p : Program) (callee : Callee) (box most : ℕ) (never : NeverRaises c
     any-alternatives alts,
   )
 
+  -- where a procedure ends, no more of the budget is left
   ends-most : (q : Proc Ref) → Ends p callee box (AtMost most) q (λ state result budget. budget ≤ most)
   ends-most q = record { none = λ state slots budget h. h; done = λ state slots budget h. h }
 
+  -- a procedure leaves no more of the budget
   performed-most : (q : Proc Ref) (f : Form Ref) (state : State) (slots : List Value) →
       (performed p callee box q f state slots most).budget ≤ most
   performed-most q (F.Total ss) state slots =
@@ -110,11 +120,13 @@ module _ (p : Program) (callee : Callee) (box most : ℕ) (never : NeverRaises c
       choice-outs p callee box (AtMost most) Any rules-most q (λ state result budget. budget ≤ most)
       (ends-most q) alts (any-alternatives alts) state slots most (le_refl most)
 
+  -- an attempt by this callee leaves no more of the budget
   attempt-of-most : (o : Option (Proc Ref)) (args : List Value) (state : State) →
       (attempt_of p callee box o args state most).budget ≤ most
   attempt-of-most None args state = le_refl most
   attempt-of-most (Some q) args state = performed-most q q.form state (entry_slots q args)
 
+-- attempts of every depth leave no more of the budget
 pub attempt-never : (p : Program) (depth : ℕ) → NeverRaises (attempt p depth)
 attempt-never p zero = record { by = λ box number args state budget. le_refl budget }
 attempt-never p (suc depth) =
@@ -123,6 +135,7 @@ attempt-never p (suc depth) =
           (attempt-never p depth) (procedure_of p box number) args state;
     }
 
+-- a statement leaves no more of the budget
 pub statement-never : (p : Program) (callee : Callee) (box : ℕ) → NeverRaises callee →
     (s : Statement Ref) (state : State) (slots : List Value) (budget : ℕ) →
     (statement p callee box s state slots budget).budget ≤ budget
@@ -130,6 +143,7 @@ statement-never p callee box never s state slots budget =
     (statement-kept p callee box (AtMost budget) Any (rules-most p callee box budget never) s tt).by state
     slots budget (le_refl budget)
 
+-- a body leaves no more of the budget
 pub body-never : (p : Program) (callee : Callee) (box : ℕ) → NeverRaises callee →
     (ss : List (Statement Ref)) (state : State) (slots : List Value) (budget : ℕ) →
     (body p callee box ss state slots budget).budget ≤ budget

@@ -40,13 +40,16 @@ starts-are cats c kept = record {
 
 module _ (cats : List (Cat Ref)) (kept : All (KeepsCat cats) cats) (input : List ℤ) (small : All Fits input)
     (sequence : vars_in (slice_get cats 0) ≡ K.Seq ∷ []) where
+  -- the start values of a cat have the kinds of its variables
   starts-in : (o : Option (Cat Ref)) (n : ℕ) → slice_get cats n ≡ o → AreOf (starts_in o) (vars_in o)
   starts-in None n is = none-are
   starts-in (Some c) n is = starts-are cats c (all-at (KeepsCat cats) cats n c is kept)
 
+  -- the start values of a box have the kinds of its variables
   starts-of : (b : BoxInfo) → AreOf (starts_of cats b).values (vars_in (slice_get cats b.cat))
   starts-of b = starts-in (slice_get cats b.cat) b.cat refl
 
+  -- the box of the input has the input in its variable
   input-of : (b : BoxInfo) → b.cat ≡ 0 →
       AreOf (with_input input (starts_of cats b)).values (vars_in (slice_get cats b.cat))
   input-of b is =
@@ -60,15 +63,18 @@ module _ (cats : List (Cat Ref)) (kept : All (KeepsCat cats) cats) (input : List
   kinds_at None = []
   kinds_at (Some b) = vars_in (slice_get cats b.cat)
 
+  -- the values of the box of this number
   abbrev values_at : List Vars → ℕ → List Value
   values_at vars n = (slice_index_or vars n (record { values = [] })).values
 
+  -- boxes with their start values have the kinds of their variables
   plain-boxes : (boxes : List BoxInfo) (n : ℕ) →
       AreOf (values_at (map (starts_of cats) boxes) n) (kinds_at (slice_get boxes n))
   plain-boxes [] n = none-are
   plain-boxes (b ∷ bs) zero = starts-of b
   plain-boxes (b ∷ bs) (suc n) = plain-boxes bs n
 
+  -- boxes as they start, with the input, have the kinds of their variables
   boxes-start : (boxes : List BoxInfo) (n : ℕ) →
       AreOf (values_at (initial_boxes cats input boxes) n) (kinds_at (slice_get boxes n))
   boxes-start [] n = none-are
@@ -85,6 +91,7 @@ module _ (cats : List (Cat Ref)) (kept : All (KeepsCat cats) cats) (input : List
       by zero false e rec = starts-of b
       by (suc n) false e rec = rec n
 
+  -- there is one for each box
   boxes-count : (boxes : List BoxInfo) → length (initial_boxes cats input boxes) ≡ length boxes
   boxes-count [] = refl
   boxes-count (b ∷ bs) = by (b.cat == 0) (boxes-count bs)
@@ -99,6 +106,7 @@ module _ (cats : List (Cat Ref)) (kept : All (KeepsCat cats) cats) (input : List
       by true rest = ap suc (plain-count bs)
       by false rest = ap suc rest
 
+-- the first state of a checked program has its form
 pub start-form : (p : Program) (input : List ℤ) → Keeps p → All Fits input → HasForm p (initial p input)
 start-form p input keeps small = record {
   count = boxes-count p.cats keeps.cats input small keeps.input p.boxes;

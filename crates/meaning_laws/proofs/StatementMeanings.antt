@@ -37,26 +37,31 @@ module _ (p : Program) (callee : Callee) (box : ℕ) where
   layer-means t d is = ap (statement p callee box) (sym is) ∙ meaning-layer p callee box d
 
   module _ (state : State) (slots : List Value) (budget : ℕ) where
+    -- what a meaning leaves from here
     abbrev at_once : Meaning → Ran
     at_once m = m state slots budget
 
+    -- what a `let` does
     pub let-means : (name : Ref) (kind : Kind) (e : Expr Ref) →
         statement p callee box (T.Let name kind e) state slots budget
         ≡ evaluated_into box name (value e (vars_of state box) slots) state slots budget
     let-means name kind e =
         ap at_once (layer-means (T.Let name kind e) (S.Let name kind e) (rolls-Let name kind e))
 
+    -- what an assignment does
     pub assign-means : (name : Ref) (e : Expr Ref) →
         statement p callee box (T.Assign name e) state slots budget
         ≡ evaluated_into box name (value e (vars_of state box) slots) state slots budget
     assign-means name e = ap at_once (layer-means (T.Assign name e) (S.Assign name e) (rolls-Assign name e))
 
+    -- what a call does
     pub call-means : (bind : Option Ref) (call : Call Ref) →
         statement p callee box (T.Call bind call) state slots budget
         ≡ call_with p callee box bind call (arguments call.args (vars_of state box) slots) state slots budget
     call-means bind call =
         ap at_once (layer-means (T.Call bind call) (S.Call bind call) (rolls-Call bind call))
 
+    -- what a choice does
     pub if-means : (cond : Expr Ref) (holds fails : List (Statement Ref)) →
         statement p callee box (T.If cond holds fails) state slots budget
         ≡ branched (value cond (vars_of state box) slots) (body p callee box holds)
@@ -68,6 +73,7 @@ module _ (p : Program) (callee : Callee) (box : ℕ) where
         ∙ ap (λ m. branched (value cond (vars_of state box) slots)
         (body p callee box holds) m state slots budget) (in-turn-body fails))
 
+    -- what a loop does
     pub while-means : (cond : Expr Ref) (turn : List (Statement Ref)) →
         statement p callee box (T.While cond turn) state slots budget
         ≡ looped box budget cond (body p callee box turn) state slots budget

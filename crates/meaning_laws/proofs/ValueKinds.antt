@@ -48,6 +48,7 @@ int-fits (V.Int z) h = h
 int-fits (V.Bool b) h = refl
 int-fits (V.Seq zs) h = refl
 
+-- the numbers of the sequence that a value is have 64 bits
 seq-fits : (v : Value) → HasSize v → All Fits (seq_of v)
 seq-fits (V.Int z) h = All-nil Fits
 seq-fits (V.Bool b) h = All-nil Fits
@@ -81,6 +82,7 @@ found-gives : (o : Option ℤ) → IfSome o Fits → Gives (found o) K.Int
 found-gives None h = tt
 found-gives (Some z) h = (refl, h)
 
+-- an element that is there is an int of 64 bits
 element-gives : (zs : List ℤ) (z : ℤ) → All Fits zs → Gives (element zs z) K.Int
 element-gives zs (pos n) all = found-gives (slice_get zs n) (all-get Fits zs n all)
 element-gives zs (negsuc n) all = tt
@@ -90,6 +92,7 @@ of_some-gives : (zs : List ℤ) (v : Value) (k : Kind) → IsOf v k → Gives (o
 of_some-gives [] v k h = tt
 of_some-gives (z ∷ zs) v k h = h
 
+-- a function of a sequence gives its kind
 measure-gives : (fun : Fun) (zs : List ℤ) → All Fits zs → Gives (measure fun zs) (P.fun_kind fun)
 measure-gives U.First zs all =
     of_some-gives zs (V.Int (slice_index_or zs 0 (pos 0))) K.Int
@@ -133,6 +136,7 @@ quotient-gives : (x y : ℤ) → Gives (quotient x y) K.Int
 quotient-gives x y =
     if-gives (int_eq y (pos 0)) (Err ZeroDivisor) (exact (int_div x y)) K.Int tt (exact-gives (int_div x y))
 
+-- a remainder is an int of 64 bits, by the tests of the divisor and of the quotient
 remainder-gives : (x y : ℤ) → IsTrue (fits y) → Gives (remainder x y) K.Int
 remainder-gives x y small = by (int_eq y (pos 0)) refl
   where
@@ -177,6 +181,7 @@ two-give op (Ok x) (Ok y) h = apply-gives op x y h
 bool-gives : (m : Evaluated) → Gives (and_then m (λ y. Ok (V.Bool (bool_of y)))) K.Bool
 bool-gives m = then-gives m (λ y. Ok (V.Bool (bool_of y))) K.Bool (λ y. (refl, tt))
 
+-- `or` gives a bool
 either-gives : (l r : Evaluated) →
     Gives (and_then l
     (λ x. if bool_of x then Ok (V.Bool true) else and_then r (λ y. Ok (V.Bool (bool_of y))))) K.Bool
@@ -186,6 +191,7 @@ either-gives l r =
     (λ x. if-gives (bool_of x) (Ok (V.Bool true)) (and_then r (λ y. Ok (V.Bool (bool_of y)))) K.Bool
     (refl, tt) (bool-gives r))
 
+-- `and` gives a bool
 each-gives : (l r : Evaluated) →
     Gives (and_then l
     (λ x. if bool_of x then and_then r (λ y. Ok (V.Bool (bool_of y))) else Ok (V.Bool false))) K.Bool
@@ -247,6 +253,7 @@ held : (t : Bool) (k j : Kind) → (if t then Some k else None) ≡ Some j → I
 held true k j h = refl
 held false k j h = absurd (cc)
 
+-- the kind of two parts is the one that the operator gives
 two-is : (op : Op) (a b k : Kind) → P.two_kind op a b ≡ Some k → op_kind op ≡ k
 two-is O.Or a b k h = chosen _ K.Bool k h
 two-is O.And a b k h = chosen _ K.Bool k h
@@ -284,10 +291,12 @@ part-is wanted None g k h = absurd (cc)
 pub part_of_node : Node Ref → Part
 part_of_node n = fold-Node Ref Part Part node_part (λ layer. layer.node) n
 
+-- an expression is the part that its node is
 pub part-expr : (e : Expr Ref) → part_of e ≡ part_of_node e.node
 unfolding part_of part_of_node
 part-expr e = fold_out-Expr Ref Part Part node_part (λ layer. layer.node) e
 
+-- a node is the part that its layer is
 pub part-roll : (d : Node-F Ref (Node Ref) (Expr Ref)) →
     part_of_node (roll-Node Ref d)
     ≡ node_part (map-Node Ref (Node Ref) (Expr Ref) Part Part part_of_node part_of d)
@@ -296,13 +305,16 @@ part-roll d = fold-roll-Node Ref Part Part node_part (λ layer. layer.node) d
 
 -- the kind of a node, and that of an expression by its node
 module _ (s : P.Scope) where
+  -- the kind of a node
   pub kind_of_node : Node Ref → Option Kind
   kind_of_node n = fold-Node Ref (Option Kind) (Option Kind) (P.node_kind s) (λ layer. layer.node) n
 
+  -- an expression has the kind of its node
   pub kind-expr : (e : Expr Ref) → P.kind_in s e ≡ kind_of_node e.node
   unfolding P.kind_in kind_of_node
   kind-expr e = fold_out-Expr Ref (Option Kind) (Option Kind) (P.node_kind s) (λ layer. layer.node) e
 
+  -- a node has the kind of its layer
   pub kind-roll : (d : Node-F Ref (Node Ref) (Expr Ref)) →
       kind_of_node (roll-Node Ref d)
       ≡ P.node_kind s
@@ -341,9 +353,11 @@ module _ (s : P.Scope) (vars slots : List Value) (typed_vars : P.AreOf vars s.va
   abbrev KindSo : Option Kind → Part → Type 0
   KindSo o part = (k : Kind) → o ≡ Some k → Gives (part.value vars slots) k
 
+  -- a node gives a value of its kind
   NodeClaim : Node Ref → Type 0
   NodeClaim n = KindSo (kind_of_node s n) (part_of_node n)
 
+  -- an expression gives a value of its kind
   Claim : Expr Ref → Type 0
   Claim e = KindSo (P.kind_in s e) (part_of e)
 
@@ -366,6 +380,7 @@ module _ (s : P.Scope) (vars slots : List Value) (typed_vars : P.AreOf vars s.va
       subst (Gives (and_then (part.value vars slots) f)) (chosen (P.is_of K.Int o) K.Int k h)
       (then-gives (part.value vars slots) f K.Int (λ v. exact-gives (neg_ℤ (int_of v))))
 
+  -- a part after `not` gives a value of its kind
   not-gives : (part : Part) (o : Option Kind) (k : Kind) → P.where_of K.Bool o K.Bool ≡ Some k →
       Gives (and_then (part.value vars slots) (λ v. Ok (V.Bool (not (bool_of v))))) k
   not-gives part o k h =
@@ -373,6 +388,7 @@ module _ (s : P.Scope) (vars slots : List Value) (typed_vars : P.AreOf vars s.va
       subst (Gives (and_then (part.value vars slots) f)) (chosen (P.is_of K.Bool o) K.Bool k h)
       (then-gives (part.value vars slots) f K.Bool (λ v. (refl, tt)))
 
+  -- two parts under an operator give a value of their kind
   two-parts-give : (op : Op) (l r : Part) (lo ro : Option Kind) → KindSo lo l → KindSo ro r → (k : Kind) →
       option_and_then (λ left. option_and_then (P.two_kind op left) ro) lo ≡ Some k →
       Gives (both op l r vars slots) k
@@ -382,6 +398,7 @@ module _ (s : P.Scope) (vars slots : List Value) (typed_vars : P.AreOf vars s.va
       (both-gives op l r vars slots (sized (l.value vars slots) are.0 (left are.0 are.2))
       (sized (r.value vars slots) are.1 (right are.1 are.3)))
 
+  -- a function of a part gives a value of its kind
   one-part-gives : (fun : Fun) (part : Part) (o : Option Kind) → KindSo o part → (k : Kind) →
       P.where_of K.Seq o (P.fun_kind fun) ≡ Some k →
       Gives (and_then (part.value vars slots) (λ v. measure fun (seq_of v))) k
@@ -391,6 +408,7 @@ module _ (s : P.Scope) (vars slots : List Value) (typed_vars : P.AreOf vars s.va
       (measured-gives fun (part.value vars slots) (sized (part.value vars slots) is.0 (has is.0 is.1)))
 
   module _ (X Y : Type 0) (f : X → Node Ref) (g : Y → Expr Ref) (each_part : (y : Y) → Claim (g y)) where
+    -- a node gives a value of its kind where its parts do
     node-gives : (y : Node-F Ref X Y) →
         NodeClaim (roll-Node Ref (map-Node Ref X Y (Node Ref) (Expr Ref) f g y))
     unfolding NodeClaim Claim
@@ -409,11 +427,13 @@ module _ (s : P.Scope) (vars slots : List Value) (typed_vars : P.AreOf vars s.va
         layer-gives (N.One fun (g e))
         (one-part-gives fun (part_of (g e)) (P.kind_in s (g e)) (each_part e))
 
+  -- an expression gives a value of its kind where its node does
   expr-gives : (e : Expr Ref) → NodeClaim e.node → Claim e
   unfolding NodeClaim Claim
   expr-gives e c k h =
       subst (λ (p : Part). Gives (p.value vars slots) k) (sym (part-expr e)) (c k (sym (kind-expr s e) ∙ h))
 
+  -- each expression gives a value of its kind
   claims : (e : Expr Ref) → Claim e
   claims =
       ind-Expr Ref NodeClaim Claim
@@ -442,6 +462,7 @@ kind-stands vs ks n k d h e = go vs n (ap (λ l. slice_get l n) h.kinds ∙ e)
 
 module _ (s : P.Scope) (vars slots : List Value) (typed_vars : P.AreOf vars s.vars)
     (typed_slots : P.AreOf slots s.slots) where
+  -- a name that has a kind is that of a value that is there
   pub name-stands : (name : Ref) (k : Kind) → P.kind_at s name ≡ Some k →
       standing name vars slots ≡ Some (named name vars slots)
   name-stands (R.Var n) k h = kind-stands vars s.vars n k (V.Int (pos 0)) typed_vars h

@@ -1,6 +1,6 @@
 //! The bounds in the definitions are never met.
 
-ghost use Rattle.std.specs.Prelude.{◌≡◌, ◌≢◌, ◌≤◌, ◌<◌, ℕ, suc, List, Some, IsTrue};
+ghost use Rattle.std.specs.Prelude.{◌≡◌, ◌≢◌, ◌≤◌, ◌<◌, ℕ, suc, List, length, Some, IsTrue};
 ghost use Rattle.seuss_base.specs.declared.outcome.Outcome.TheVariants.{Rejected};
 ghost use Rattle.seuss_program.specs.declared.program.Program.{Program};
 ghost use Rattle.seuss_program.specs.declared.state.State.{State};
@@ -23,6 +23,13 @@ pub fn depth_is_enough()
         level_of p box < depth →
         attempt p depth box number args state budget
         ≡ attempt p (suc (level_of p box)) box number args state budget }
+{}
+
+/// Below a box of a level there is a box of each lower level, so a level is below the number of boxes.
+pub fn levels_are_few()
+    ensures below { (p : Program) (box : ℕ) → Keeps p → box < length p.boxes →
+        level_of p box < length p.boxes }
+    ensures few { (p : Program) (box : ℕ) → Keeps p → level_of p box < 128 }
 {}
 
 /// A loop has no more turns than its budget, so it is the same with any greater bound on its turns.

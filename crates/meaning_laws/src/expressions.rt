@@ -1,22 +1,25 @@
 //! What each expression means, by what its parts mean, and the kinds that are wanted of them.
 
-ghost use Rattle.std.specs.Prelude.{◌≡◌, ℤ, neg_ℤ, Bool, not, List, [], Some, Ok};
+ghost use Rattle.std.specs.Prelude.{◌≡◌, ◌≢◌, ◌⊎◌, ℤ, pos, neg_ℤ, Bool, true, false, not, if◌then◌else◌};
+ghost use Rattle.std.specs.Prelude.{List, [], length, Some, Ok, IsTrue};
 ghost use Rattle.seuss_program.specs.declared.state.Value.{Value};
 ghost use Rattle.seuss_program.specs.declared.state.Value.TheVariants as V;
 ghost use Rattle.seuss_program.specs.declared.tree.Expr.{Expr};
 ghost use Rattle.seuss_program.specs.declared.tree.Fun.{Fun};
+ghost use Rattle.seuss_program.specs.declared.tree.Fun.TheVariants.{Len};
 ghost use Rattle.seuss_program.specs.declared.tree.Kind.{Kind};
 ghost use Rattle.seuss_program.specs.declared.tree.Kind.TheVariants as K;
 ghost use Rattle.seuss_program.specs.declared.tree.Node.TheVariants as N;
 ghost use Rattle.seuss_program.specs.declared.tree.Op.{Op};
+ghost use Rattle.seuss_program.specs.declared.tree.Op.TheVariants.{And, Or};
 ghost use Rattle.seuss_program.specs.declared.tree.Ref.{Ref};
-ghost use Rattle.seuss_program.specs.Values.{and_then, bool_of, both, exact, int_of, measure, named};
-ghost use Rattle.seuss_program.specs.Values.{part_of};
-ghost use Rattle.seuss_program.specs.Values.{seq_of, value};
+ghost use Rattle.seuss_program.specs.Values.{and_then, apply, bool_of, exact, int_of, is_comparison, measure};
+ghost use Rattle.seuss_program.specs.Values.{named, seq_of, value};
 ghost use Rattle.seuss_program.specs.Keeping.{Scope, kind_at, kind_in, two_kind};
+ghost use Rattle.meaning_laws.specs.Literals.{ComparesLength, IsLiteral};
 
-/// The value of an expression, by the values of its parts. What two parts mean under an operator is in
-/// `both`.
+/// The value of an expression, by the values of its parts. What two parts mean under an operator is said by
+/// `two_parts_mean`.
 pub fn expressions_mean()
     ensures number { (e : Expr Ref) (z : ℤ) (vars slots : List Value) → e.node ≡ N.Int z →
         value e vars slots ≡ Ok (V.Int z) }
@@ -32,9 +35,36 @@ pub fn expressions_mean()
         value e vars slots ≡ and_then (value part vars slots) (λ v. Ok (V.Bool (not (bool_of v)))) }
     ensures measured { (e part : Expr Ref) (fun : Fun) (vars slots : List Value) → e.node ≡ N.One fun part →
         value e vars slots ≡ and_then (value part vars slots) (λ v. measure fun (seq_of v)) }
-    ensures of_two { (e left right : Expr Ref) (op : Op) (vars slots : List Value) →
-        e.node ≡ N.Two op left right →
-        value e vars slots ≡ both op (part_of left) (part_of right) vars slots }
+{}
+
+/// The value of two parts under an operator. In a comparison a length beside a literal counts exactly, also
+/// where it doesn't fit 64 bits. `or` and `and` take the right part only where the left one doesn't decide.
+/// Any other two parts have their values, the left one first.
+pub fn two_parts_mean()
+    ensures length_on_the_left { (e left right sequence : Expr Ref) (op : Op) (vars slots : List Value) →
+        e.node ≡ N.Two op left right → IsTrue (is_comparison op) → left.node ≡ N.One Len sequence →
+        IsLiteral right →
+        value e vars slots ≡ and_then (value sequence vars slots)
+        (λ v. and_then (value right vars slots) (apply op (V.Int (pos (length (seq_of v)))))) }
+    ensures length_on_the_right { (e left right sequence : Expr Ref) (op : Op) (vars slots : List Value) →
+        e.node ≡ N.Two op left right → IsTrue (is_comparison op) → IsLiteral left →
+        right.node ≡ N.One Len sequence →
+        value e vars slots ≡ and_then (value left vars slots)
+        (λ x. and_then (value sequence vars slots) (λ v. apply op x (V.Int (pos (length (seq_of v)))))) }
+    ensures disjunction { (e left right : Expr Ref) (vars slots : List Value) →
+        e.node ≡ N.Two Or left right →
+        value e vars slots ≡ and_then (value left vars slots) (λ x. if bool_of x then Ok (V.Bool true)
+        else and_then (value right vars slots) (λ y. Ok (V.Bool (bool_of y)))) }
+    ensures conjunction { (e left right : Expr Ref) (vars slots : List Value) →
+        e.node ≡ N.Two And left right →
+        value e vars slots ≡ and_then (value left vars slots) (λ x. if bool_of x
+        then and_then (value right vars slots) (λ y. Ok (V.Bool (bool_of y))) else Ok (V.Bool false)) }
+    ensures others { (e left right : Expr Ref) (op : Op) (vars slots : List Value) →
+        e.node ≡ N.Two op left right → op ≢ Or → op ≢ And → ¬ ComparesLength op left right →
+        value e vars slots ≡ and_then (value left vars slots)
+        (λ x. and_then (value right vars slots) (apply op x)) }
+    ensures decided { (left right : Expr Ref) (op : Op) →
+        ComparesLength op left right ⊎ ¬ ComparesLength op left right }
 {}
 
 /// Where an expression has a kind, each part of it has the kind that is wanted there.

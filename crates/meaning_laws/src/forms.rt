@@ -1,6 +1,7 @@
 //! States keep the form of the program, and slots their kinds.
 
-ghost use Rattle.std.specs.Prelude.{◌≡◌, ℕ, ℤ, true, List, length, slice_get, Some, None, All, IsTrue};
+ghost use Rattle.std.specs.Prelude.{◌≡◌, ℕ, ℤ, true, List, length, slice_get, Some, None, IfSome, All};
+ghost use Rattle.std.specs.Prelude.{IsTrue};
 ghost use Rattle.seuss_program.specs.declared.program.Program.{Program};
 ghost use Rattle.seuss_program.specs.declared.state.State.{State};
 ghost use Rattle.seuss_program.specs.declared.state.Value.{Value};
@@ -48,8 +49,8 @@ pub fn places_are_there()
 {}
 
 /// An attempt of a procedure with arguments of its parameters' kinds leaves a state of the program's form,
-/// and has a result exactly where it is accepted and the procedure gives one. Attempts of actions and runs
-/// of them leave such a state, too.
+/// and has a result exactly where it is accepted and the procedure gives one. The result has 64 bits.
+/// Attempts of actions and runs of them leave such a state, too.
 pub fn attempts_keep_form()
     ensures state { (p : Program) (depth box number : ℕ) (q : Proc Ref) (args : List Value) (state : State)
         (budget : ℕ) →
@@ -59,6 +60,11 @@ pub fn attempts_keep_form()
     ensures result { (p : Program) (depth box number : ℕ) (q : Proc Ref) (args : List Value) (state : State)
         (budget : ℕ) →
         procedure_of p box number ≡ Some q → HasResult q (attempt p depth box number args state budget) }
+    ensures fits { (p : Program) (depth box number : ℕ) (q : Proc Ref) (args : List Value) (state : State)
+        (budget : ℕ) →
+        Keeps p → procedure_of p box number ≡ Some q → AreOf args (param_kinds q.params) →
+        HasForm p state →
+        IfSome (attempt p depth box number args state budget).result (λ z. IsTrue (fits z)) }
     ensures action { (p : Program) (action : ℕ) (state : State) (budget : ℕ) → Keeps p → HasForm p state →
         HasForm p (action_attempt p (slice_get p.actions action) state budget).state }
     ensures action_result { (p : Program) (action : ℕ) (state : State) (budget : ℕ) → Keeps p →

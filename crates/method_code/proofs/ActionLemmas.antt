@@ -13,6 +13,7 @@ use Rattle.seuss_program.specs.Programs.{procedure_of}
 use Rattle.seuss_program.specs.Keeping.{Keeps, is_action, actions_among, actions_of, procedures_in}
 use Rattle.method_code.specs.Kinds.{IsAction}
 
+-- nothing is not something
 none_some : {A : Type 0} (x : A) → None ≡ Some x → ⊥
 none_some x h = cc
 
@@ -21,6 +22,7 @@ abbrev In : {A : Type 0} → A → List A → Type 0
 In x [] = ⊥
 In x (y ∷ ys) = (y ≡ x) ⊎ In x ys
 
+-- an item at a place stands in its list
 in_get : {A : Type 0} (xs : List A) (n : ℕ) (x : A) → slice_get xs n ≡ Some x → In x xs
 in_get [] n x h = absurd (none_some x h)
 in_get (y ∷ ys) zero x h = inl (same h)
@@ -29,6 +31,7 @@ in_get (y ∷ ys) zero x h = inl (same h)
     same h = cc
 in_get (y ∷ ys) (suc n) x h = inr (in_get ys n x h)
 
+-- an item of two lists stands in one of them
 in_append : {A : Type 0} (xs ys : List A) (x : A) → In x (xs ++ ys) → In x xs ⊎ In x ys
 in_append [] ys x h = inr h
 in_append (y ∷ xs) ys x (inl e) = inl (inl e)
@@ -47,6 +50,7 @@ record Among (box first : ℕ) (qs : List (Proc Ref)) (a : ActionInfo) : Type 0 
   box_is : a.box_number ≡ box
   number : a.procedure ≡ first + place
 
+-- an action among those of a box is one of its procedures
 among : (box first : ℕ) (qs : List (Proc Ref)) (a : ActionInfo) → In a (actions_among box first qs) →
     Among box first qs a
 among box first [] a h = elim h [ ]
@@ -84,6 +88,7 @@ record Boxed (cats : List (Cat Ref)) (first : ℕ) (boxes : List BoxInfo) (a : A
   there : slice_get boxes place ≡ Some info
   action : Among (first + place) 0 (procedures_in (slice_get cats info.cat)) a
 
+-- an action among those of all boxes is one of some box
 boxed : (cats : List (Cat Ref)) (first : ℕ) (boxes : List BoxInfo) (a : ActionInfo) →
     In a (actions_of cats first boxes) → Boxed cats first boxes a
 boxed cats first [] a h = elim h [ ]
@@ -113,6 +118,7 @@ boxed cats first (b ∷ bs) a h = by
               subst (λ n. Among n 0 (procedures_in (slice_get cats r.info.cat)) a) (omega arith) r.action;
         }
 
+-- an action of a checked program is an action of its box
 pub action_is : (p : Program) → Keeps p → (n : ℕ) (a : ActionInfo) → slice_get p.actions n ≡ Some a →
     IsAction p a
 action_is p keeps n a h =

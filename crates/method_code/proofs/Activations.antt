@@ -1,5 +1,5 @@
 -- A pass of an action stays among the frames of its line and its tail.
-use Rattle.std.proofs.Common.{◌≡◌, ℕ, ◌-◌, ℤ, ◌⊎◌, inl, inr, Bool, true, false, if◌then◌else◌, List, []}
+use Rattle.std.proofs.Common.{◌≡◌, ℕ, ◌<◌, ◌-◌, ℤ, ◌⊎◌, inl, inr, Bool, true, false, if◌then◌else◌, List, []}
 use Rattle.std.proofs.Common.{◌∷◌, ◌++◌, length, Option, None, Some, refl, sym, ap, ◌∙◌, subst, arith}
 use Rattle.std.proofs.Common.{true≢false}
 use Rattle.std.proofs.lemmas.List.{map-append}
@@ -16,26 +16,28 @@ use Rattle.seuss_program.specs.declared.state.Value.TheVariants as V
 use Rattle.seuss_program.specs.Programs.{procedure_of, target_of, method_of}
 use Rattle.seuss_program.specs.Values.{fits, HasSize}
 use Rattle.seuss_program.specs.Keeping.{kind_of, Keeps, is_total, param_kinds}
-use Rattle.method_code.specs.declared.method.Method.{Method}
 use Rattle.method_code.specs.declared.frame.Frame.{Frame}
 use Rattle.method_code.specs.declared.frame.End.{End}
 use Rattle.method_code.specs.declared.frame.End.TheVariants as E
 use Rattle.method_code.specs.declared.activation.Waiting.{Waiting}
 use Rattle.method_code.specs.declared.activation.Activation.{Activation}
-use Rattle.method_code.specs.Codes.{compiled, number_of, method_code}
-use Rattle.method_code.specs.Steps.{Stepped, step, step_in}
+use Rattle.method_code.specs.Codes.{compiled}
+use Rattle.method_code.specs.Steps.{Stepped, step}
 use Rattle.method_code.specs.Chains.{Turned, Next, Over, turned, begun, accepted, rejected, after_accepted}
 use Rattle.method_code.specs.Chains.{after_rejected, last_of}
 use Rattle.method_code.specs.Kinds.{steps_made, steps_on, IsAction}
 use Rattle.method_code.specs.Frames.{IsFrame, IsPlace, Rejection, Result as AtResult, Return, IsWaiting}
 use Rattle.method_code.specs.Frames.{IsCall, FitsEnd}
 use Rattle.seuss_program.specs.Lines.{InLine, Own, Early, InTail, OfLine, OfTail, body_calls, early_calls}
-use Rattle.method_code.specs.OwnSteps.{EachMade, FindsVars, IsOwnStep}
-use Rattle.method_code.proofs.Places.{stands, coded, scope, keeps_procedure, calls_below}
-use Rattle.method_code.proofs.Attempting.{named}
+use Rattle.method_code.specs.Kinds.{Made}
+use Rattle.method_code.specs.OwnSteps.{EachMade, FindsVars, IsOwnStep, MayMake}
+use Rattle.method_code.specs.Beside.{MayBegin, AtEntry, AtPlace}
+use Rattle.method_code.proofs.Places.{stands, keeps_procedure}
 use Rattle.method_code.proofs.Phases.{Each, each_push, each_get, each_take}
 use Rattle.method_code.proofs.SafeProcedures.{step_fits}
-use Rattle.method_code.proofs.NamedCalls.{EndNamed, named_form, placed_named}
+use Rattle.method_code.proofs.NamedCalls.{EndNamed}
+use Rattle.method_code.proofs.CodedCalls.{end_named}
+use Rattle.method_code.proofs.TypingLaws.{KindLaws}
 use Rattle.method_code.proofs.EntryFrames.{entry_is_frame}
 
 -- a procedure that a pass of an action may run; in its tail they are total
@@ -48,6 +50,7 @@ record Among (p : Program) (a : ActionInfo) (box number : ℕ) : Type 0 where
 record OwnFrame (p : Program) (a : ActionInfo) (box : ℕ) (frame : Frame) : Type 0 where
   is : IsFrame p box frame
   of : Among p a box is.number
+  begins : MayBegin p box is.number is.procedure frame
 
 -- and one at which it may wait
 record OwnWaiting (p : Program) (a : ActionInfo) (w : Waiting) : Type 0 where
@@ -59,6 +62,7 @@ record OwnPass (p : Program) (a : ActionInfo) (x : Activation) : Type 0 where
   here : OwnFrame p a x.box_number x.frame
   waits : Each (OwnWaiting p a) x.waiting
 
+-- what comes after a step is a pass of the action, or its end
 abbrev OwnNext : Program → ActionInfo → Turned → Type 0
 OwnNext p a (Next x) = OwnPass p a x
 OwnNext p a (Over end) = Unit {0}
@@ -67,7 +71,7 @@ OwnNext p a (Over end) = Unit {0}
 one_procedure : (o : Option (Proc Ref)) (q r : Proc Ref) → o ≡ Some q → o ≡ Some r → q ≡ r
 one_procedure o q r h g = cc
 
-module _ (p : Program) (keeps : Keeps p) (a : ActionInfo) where
+module _ (laws : KindLaws) (p : Program) (keeps : Keeps p) (a : ActionInfo) where
   -- a call in the text of such a procedure
   called_among : (box number target called : ℕ) (args : List Value) (partial : Bool)
       (o : Among p a box number) → (q : Proc Ref) → procedure_of p box number ≡ Some q →
@@ -118,6 +122,8 @@ module _ (p : Program) (keeps : Keeps p) (a : ActionInfo) where
       place = Return o.is.at o.is.place o.is.takes o.is.slots;
     };
     of = o.of;
+    begins = AtPlace o.is.method (omega (arith, o.is.place))
+        (Return o.is.at o.is.place o.is.takes o.is.slots);
   }
   accepted_own w (Some z) small o = record {
     is = record {
@@ -125,16 +131,21 @@ module _ (p : Program) (keeps : Keeps p) (a : ActionInfo) where
       procedure = o.is.procedure;
       there = o.is.there;
       method = o.is.method;
-      place = AtResult o.is.at (omega (arith, o.is.place)) o.is.takes
+      place = at_result;
+    };
+    of = o.of;
+    begins = AtPlace o.is.method (omega (arith, o.is.place)) at_result;
+  }
+    where
+      at_result : IsPlace o.is.procedure (w.frame.place - 1) (w.frame.slots ++ V.Int z ∷ [])
+      at_result = AtResult o.is.at (omega (arith, o.is.place)) o.is.takes
           (record {
             kinds = map-append kind_of w.frame.slots (V.Int z ∷ [])
                 ∙ ap (λ ks. ks ++ KV.Int ∷ []) o.is.slots.kinds;
             sizes = All-push HasSize w.frame.slots (V.Int z) o.is.slots.sizes small;
-          });
-    };
-    of = o.of;
-  }
+          })
 
+  -- a caller goes on after a rejected call at a frame of its own
   rejected_own : (w : Waiting) → OwnWaiting p a w → OwnFrame p a w.box_number (after_rejected w)
   rejected_own w o = record {
     is = record {
@@ -145,13 +156,19 @@ module _ (p : Program) (keeps : Keeps p) (a : ActionInfo) where
       place = by w.partial o.is.early;
     };
     of = o.of;
+    begins = AtPlace o.is.method (above w.partial) (by w.partial o.is.early);
   }
     where
+      above : (b : Bool) → 0 < (if b then 1 else w.frame.place)
+      above true = omega arith
+      above false = omega (arith, o.is.place)
+
       by : (b : Bool) → (b ≡ true → is_total o.is.procedure.form ≡ false) →
           IsPlace o.is.procedure (if b then 1 else w.frame.place) w.frame.slots
       by true early = Rejection refl (early refl) o.is.slots
       by false early = Return o.is.at o.is.place o.is.takes o.is.slots
 
+  -- a pass of the action goes on after an accepted call
   accepted_next : (x : Activation) (found : Option ℤ) → IfSome found (λ z. IsTrue (fits z)) →
       Each (OwnWaiting p a) x.waiting → OwnNext p a (accepted x found (last_of x.waiting))
   accepted_next x found small waits = by (last_of x.waiting) refl
@@ -164,6 +181,7 @@ module _ (p : Program) (keeps : Keeps p) (a : ActionInfo) where
         waits = each_take (OwnWaiting p a) (length x.waiting - 1) x.waiting waits;
       }
 
+  -- a pass of the action goes on after a rejected call
   rejected_next : (x : Activation) (plain : Bool) → Each (OwnWaiting p a) x.waiting →
       OwnNext p a (rejected x plain (last_of x.waiting))
   rejected_next x plain waits = by (last_of x.waiting) refl
@@ -196,10 +214,11 @@ module _ (p : Program) (keeps : Keeps p) (a : ActionInfo) where
             procedure = f.1.procedure;
             there = f.1.there;
             method = refl;
-            place = entry_is_frame p (target_of p x.box_number (R.Given target)) called f.1.procedure args
-                f.1.there f.1.args;
+            place = entry_is_frame laws p (target_of p x.box_number (R.Given target)) called
+                f.1.procedure args f.1.there f.1.args;
           };
           of = among;
+          begins = AtEntry args f.1.args refl;
         };
         waits = each_push (OwnWaiting p a) x.waiting w o.waits
             (record { number = number; is = f.0; of = o.here.of });
@@ -215,20 +234,7 @@ module _ (p : Program) (keeps : Keeps p) (a : ActionInfo) where
       EndNamed (body_calls f.procedure.form) (early_calls f.procedure.form)
       (step (compiled p) frame budget vars).end
   step_named box frame budget vars f =
-      let q = f.procedure in
-      let at = stands p box f.number q f.there in
-      let n = named_form (scope p keeps box f.number q at)
-      (λ form bind call fit. let r = named (scope p keeps box f.number q at) form bind call fit in
-      (calls_below p keeps box f.number q at call r.0 r.1).given)
-      q.form (keeps_procedure p keeps box f.number q at).text in
-      subst (λ (x : Stepped). EndNamed (body_calls q.form) (early_calls q.form) x.end)
-      (sym (ap (λ k. step (compiled p) (record { method = k; place = frame.place; slots = frame.slots })
-      budget vars) f.method
-      ∙ ap (λ (o : Option Method). step_in o
-      (record { method = number_of p box f.number; place = frame.place; slots = frame.slots }) budget
-      vars) (coded p box f.number q f.there)))
-      (placed_named (body_calls q.form) (early_calls q.form) (method_code q) (number_of p box f.number)
-      budget frame.place vars frame.slots n.0 n.1)
+      end_named p keeps box f.number f.procedure f.there frame budget vars f.method
 
   -- all steps of a pass that finds variables of the boxes
   own_steps : (row : List (List Value)) (x : Activation) (budget : ℕ) → OwnPass p a x →
@@ -237,8 +243,8 @@ module _ (p : Program) (keeps : Keeps p) (a : ActionInfo) where
   own_steps [] x budget o finds = tt
   own_steps (vars ∷ row) x budget o finds =
       let s : Stepped = step (compiled p) x.frame budget vars in
-      let fits = step_fits p keeps x.box_number x.frame budget vars o.here.is finds.0 in (
-        record { frame = o.here.is; among = loose o.here.of.among; leaves = fits },
+      let fits = step_fits laws p keeps x.box_number x.frame budget vars o.here.is finds.0 in (
+        record { frame = o.here.is; among = loose o.here.of.among; begins = o.here.begins; leaves = fits },
         by (turned p (record x { frame = s.frame }) s.end) s.budget
             (λ next k f. own_steps row next s.budget k f)
             (next_own x o s s.end fits.end (step_named x.box_number x.frame budget vars o.here.is)) finds.1,
@@ -258,6 +264,7 @@ module _ (p : Program) (keeps : Keeps p) (a : ActionInfo) where
       by (Next next) left go h f = go next h f
       by (Over end) left go h f = tt
 
+  -- an action begins a pass of its own
   own_begin : IsAction p a → OwnPass p a (begun p a)
   own_begin is =
       let at = stands p a.box_number a.procedure is.procedure is.there in
@@ -269,15 +276,32 @@ module _ (p : Program) (keeps : Keeps p) (a : ActionInfo) where
             procedure = is.procedure;
             there = is.there;
             method = refl;
-            place = entry_is_frame p a.box_number a.procedure is.procedure [] is.there
+            place = entry_is_frame laws p a.box_number a.procedure is.procedure [] is.there
                 (record { kinds = ap param_kinds (sym alone.0); sizes = All-nil HasSize });
           };
           of = record { procedure = is.procedure; there = is.there; among = inl Own };
+          begins = AtEntry [] (record { kinds = ap param_kinds (sym alone.0); sizes = All-nil HasSize }) refl;
         };
         waits = tt;
       }
 
+  -- the steps of a pass that finds variables of the boxes are steps of its action
   pub own_pass : IsAction p a → (row : List (List Value)) (budget : ℕ) →
       EachMade (FindsVars p) (steps_made p row (begun p a) budget) →
       EachMade (IsOwnStep p a) (steps_made p row (begun p a) budget)
   own_pass is row budget finds = own_steps row (begun p a) budget (own_begin is) finds
+
+-- its own steps are steps that the pass may make
+pub own_may : (p : Program) (a : ActionInfo) (steps : List Made) → EachMade (IsOwnStep p a) steps →
+    EachMade (MayMake p a) steps
+own_may p a [] own = tt
+own_may p a (s ∷ steps) own = (
+  record {
+    number = own.0.frame.number;
+    procedure = own.0.frame.procedure;
+    there = own.0.frame.there;
+    among = own.0.among;
+    begins = own.0.begins;
+  },
+  own_may p a steps own.1,
+)

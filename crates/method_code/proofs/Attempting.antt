@@ -54,6 +54,7 @@ named s form bind call h = by (called s call) refl h
     by None e h = absurd (true≢false (sym h))
     by (Some r) e h = (r, e, and_left (form r.form) _ h)
 
+-- a total form is a body
 total_form : (f : Form Ref) → IsTrue (is_total f) → (ts : List (Statement Ref)) × (f ≡ F.Total ts)
 total_form (F.Total ts) h = (ts, refl)
 total_form (F.Partial alts) h = absurd (true≢false (sym h))
@@ -97,6 +98,7 @@ module _ (p : Program) (keeps : Keeps p) (depth box number : ℕ) (deep : level_
     (lower : (target method : ℕ) → level_of p target < depth → Good p depth target method) where
   -- the calls in a procedure that stands there
   module _ (q : Proc Ref) (at : Stands p box number q) where
+    -- a fitting total call does what an attempt of its procedure does
     total_calls : TotalCalls p (attempt p depth) (scope p keeps box number q at) box
     total_calls = record {
       given = λ bind call fits. let r = named (scope p keeps box number q at) is_total bind call fits in
@@ -109,6 +111,7 @@ module _ (p : Program) (keeps : Keeps p) (depth box number : ℕ) (deep : level_
           r.0 f.0 c.there f.1;
     }
 
+    -- a fitting preprocedure does what an attempt of it does
     early_calls : EarlyCalls p (attempt p depth) (scope p keeps box number q at) box (2 * level_of p box)
     early_calls = record {
       given = λ bind call fits. let r = named (scope p keeps box number q at) is_partial bind call fits in
@@ -168,6 +171,7 @@ module _ (p : Program) (keeps : Keeps p) (depth box number : ℕ) (deep : level_
       (called_as p box (number_of p box number) ws plain total (enters args σ budget ws plain) here budget
       allowed d.outcome d.result d.state d.budget (λ n. sym (same n)) a)
 
+  -- a call of a total method does what an attempt of it does
   total_performs : (q : Proc Ref) (ts : List (Statement Ref)) → procedure_of p box number ≡ Some q →
       q.form ≡ F.Total ts → (args : List Value) (σ : State) (budget : ℕ) (ws : List Waiting) (plain : Bool)
       →

@@ -29,7 +29,7 @@ use Rattle.method_code.specs.Codes.{compiled, number_of, call_code, given_number
 use Rattle.method_code.specs.Steps.{acts, acted, put, called_with, step_in}
 use Rattle.method_code.specs.Chains.{chain, went_on, after_accepted, accepted, last_of, all_but_last}
 use Rattle.method_code.proofs.States.{with_same}
-use Rattle.method_code.proofs.Going.{behind, after, go_trap, runs_stop}
+use Rattle.method_code.proofs.Going.{rest_after, after, go_trap, runs_stop}
 use Rattle.method_code.proofs.Following.{Going, over, Leads, FollowsRan, CallFollows, Performs, accepting}
 use Rattle.method_code.proofs.Following.{start, left_at, leads_as, follows_as, follows_then}
 use Rattle.method_code.proofs.Simulation.{from, Simulates, put_follows, next, last_is, before_last}
@@ -43,6 +43,7 @@ last_waits ws w =
     slice_get-get_or (ws ++ w ∷ []) (length (ws ++ w ∷ []) - 1) w within
     ∙ ap Some (get_or_push ws w w (length (ws ++ w ∷ []) - 1) n)
 
+-- those before the last one that waits
 pub others_wait : (ws : List Waiting) (w : Waiting) → all_but_last (ws ++ w ∷ []) ≡ ws
 others_wait ws w =
     let n : length (ws ++ w ∷ []) - 1 ≡ length ws = omega (arith, length-append ws (w ∷ [])) in
@@ -97,6 +98,7 @@ module _ (p : Program) (box : ℕ) (m : Method) (method : ℕ) (ws : List Waitin
   abbrev waiting_frame : ℕ → List Value → Frame
   waiting_frame place slots = record { method = method; place = place; slots = slots }
 
+  -- the pass in which the caller goes on
   abbrev pub resumed_at : Frame → Activation
   resumed_at frame = record { box_number = box; frame = frame; waiting = ws; plain = plain }
 
@@ -108,7 +110,7 @@ module _ (p : Program) (box : ℕ) (m : Method) (method : ℕ) (ws : List Waitin
       (bound box name found σ slots budget)
   bound_follows at rest σ slots budget name found h = by name found h
     where
-      -- behind the instruction that takes a result
+      -- after the instruction that takes a result
       passed : (k : ℕ) → chain p (suc k) (at_place (at + 2) slots) σ budget
           ≡ from p box m method ws plain (at + 1) σ slots budget k
       passed k = let e : at + 2 ≡ suc (at + 1) = omega arith in
@@ -194,13 +196,14 @@ module _ (p : Program) (box : ℕ) (m : Method) (method : ℕ) (ws : List Waitin
         (follows_then here back (from p box m method ws plain (at + 1 + 1)) (suc budget) (2 * suc budget)
         left ran.state ran.slots ran.budget ran.finish lead
         (bound_follows (at + 1) post σ slots left bind found
-        (behind m.instructions (I.Call (call_code call) ∷ []) (I.Take bind ∷ post) at h)))
+        (rest_after m.instructions (I.Call (call_code call) ∷ []) (I.Take bind ∷ post) at h)))
     after_call at post slots budget here there h one O.Rejected found σ left a = absurd a
     after_call at post slots budget here there h one (O.Trapped t) found σ left a = let x = a.by in
         record { by = (suc x.0, omega (arith, x.1), one x.0 ∙ x.2) }
     after_call at post slots budget here there h one O.Spent found σ left a = let x = a.by in
         record { by = (suc x.0, omega (arith, x.1), one x.0 ∙ x.2) }
 
+    -- a call follows its meaning, by the values of its arguments
     call_follows : (at : ℕ) (post : List Instruction) (σ : State) (slots : List Value) (budget : ℕ) →
         drop at m.instructions ≡ I.Call (call_code call) ∷ I.Take bind ∷ post →
         (args : Result (List Value) Trap) → arguments call.args (vars_of σ box) slots ≡ args →
@@ -245,6 +248,7 @@ module _ (p : Program) (box : ℕ) (m : Method) (method : ℕ) (ws : List Waitin
         called.outcome called.result called.state called.budget
         (performs.by args σ budget (ws ++ waits_here at slots ∷ []) plain)
 
+    -- the code of a call simulates the call
     pub call_simulates : Simulates p box m method ws plain (I.Call (call_code call) ∷ I.Take bind ∷ [])
         (λ σ slots budget. call_with p callee box bind call (arguments call.args (vars_of σ box) slots) σ
         slots budget)

@@ -59,27 +59,33 @@ module _ (p : Program) (box : ℕ) where
   CallsTotal I.Return = Unit {0}
   CallsTotal I.Reject = Unit {0}
 
+  -- each call in code is of a total method
   abbrev pub EachTotal : List Instruction → Type 0
   EachTotal [] = Unit {0}
   EachTotal (i ∷ is) = CallsTotal i × EachTotal is
 
+  -- each head calls a procedure that may reject
   abbrev pub EachEarly : List Head → Type 0
   EachEarly [] = Unit {0}
   EachEarly (h ∷ hs) = ((call : CallCode) → h.early ≡ Some call → EarlyAt p box call) × EachEarly hs
 
+  -- each head of an entry does
   abbrev pub EntryEarly : Entry → Type 0
   EntryEarly N.Total = Unit {0}
   EntryEarly (N.Partial hs) = EachEarly hs
 
+  -- calls of two parts are total where those of both are
   each_append : (xs ys : List Instruction) → EachTotal xs → EachTotal ys → EachTotal (xs ++ ys)
   each_append [] ys a b = b
   each_append (x ∷ xs) ys a b = (a.0, each_append xs ys a.1 b)
 
+  -- calls of a rest of code are total where those of the code are
   pub each_drop : (n : ℕ) (xs : List Instruction) → EachTotal xs → EachTotal (drop n xs)
   each_drop zero xs a = a
   each_drop (suc n) [] a = a
   each_drop (suc n) (x ∷ xs) a = each_drop n xs a.1
 
+  -- calls of all parts are total where those of each are
   each_joined : {X : Type 0} (code : X → List Instruction) (test : X → Bool) →
       ((x : X) → IsTrue (test x) → EachTotal (code x)) → (xs : List X) → IsTrue (all_true (map test xs)) →
       EachTotal (joined (map code xs))
@@ -92,9 +98,11 @@ module _ (p : Program) (box : ℕ) where
       FormAt p is_total (target_of p box (R.Given (given_number call.target))) (method_of call.method))
       (early : (bind : Option Ref) (call : Call Ref) → IsTrue (call_fits s is_partial bind call) →
       EarlyAt p box (call_code call)) where
+    -- the calls of a statement that fits are total
     FitsSo : Statement Ref → Type 0
     FitsSo t = IsTrue (statement_fits s t) → EachTotal (code_of t)
 
+    -- a statement, by the statements inside it
     layer_fits : (d : Statement-F Ref (Statement Ref)) →
         (IsTrue (K.statement_step s (map-Statement Ref (Statement Ref) Bool (statement_fits s) d)) →
         EachTotal (code_step (map-Statement Ref (Statement Ref) (List Instruction) code_of d))) →
@@ -104,6 +112,7 @@ module _ (p : Program) (box : ℕ) where
         (h (subst (λ b. IsTrue b) (fits-layer s d) fits))
 
     module _ (X : Type 0) (f : X → Statement Ref) (each_fits : (x : X) → FitsSo (f x)) where
+      -- the statements inside a statement
       inner : (xs : List X) → IsTrue (all_true (each (statement_fits s) (each f xs))) →
           EachTotal (joined (each code_of (each f xs)))
       unfolding FitsSo
@@ -111,6 +120,7 @@ module _ (p : Program) (box : ℕ) where
           (each_joined (λ x. code_of (f x)) (λ x. statement_fits s (f x)) each_fits xs
           (subst (λ l. IsTrue (all_true l)) (each_each f (statement_fits s) xs) fits))
 
+      -- one layer of a statement
       layer : (y : Statement-F Ref X) → FitsSo (roll-Statement Ref (map-Statement Ref X (Statement Ref) f y))
       layer (S.Let name kind e) = layer_fits (S.Let name kind e) (λ fits. (tt, tt))
       layer (S.Assign name e) = layer_fits (S.Assign name e) (λ fits. (tt, tt))
@@ -127,17 +137,20 @@ module _ (p : Program) (box : ℕ) where
             (inner turn (and_right (is_of KV.Bool (kind_in s cond)) _ fits)) (tt, tt),
       ))
 
+    -- the code of a statement that fits calls total methods
     each_statement : (t : Statement Ref) → IsTrue (statement_fits s t) → EachTotal (code_of t)
     unfolding FitsSo
     each_statement = ind-Statement Ref FitsSo
         (λ x y is. subst (λ z. FitsSo (roll-Statement Ref z)) is (layer _ (λ e. e.0) (λ e. e.1) y))
 
+    -- the code of a body that fits calls total methods
     each_body : (ts : List (Statement Ref)) → IsTrue (body_fits s ts) → EachTotal (flat_map code_of ts)
     each_body [] fits = tt
     each_body (t ∷ ts) fits = each_append (code_of t) (flat_map code_of ts)
         (each_statement t (and_left (statement_fits s t) _ fits))
         (each_body ts (and_right (statement_fits s t) _ fits))
 
+    -- the code of alternatives that fit calls total methods in their bodies
     each_alternative : (alts : List (Alternative Ref)) → IsTrue (alternatives_fit s alts) →
         EachTotal (flat_map alternative_code alts)
     each_alternative [] fits = tt
@@ -157,6 +170,7 @@ module _ (p : Program) (box : ℕ) where
         last true = (tt, tt)
         last false = (tt, tt)
 
+    -- alternatives that fit begin with procedures that may reject
     each_head : (at : ℕ) (alts : List (Alternative Ref)) → IsTrue (alternatives_fit s alts) →
         EachEarly (heads at alts)
     each_head at [] fits = tt

@@ -40,10 +40,12 @@ Follows here there budget allowed σ slots left Done = Leads here (there σ slot
 Follows here there budget allowed σ slots left (Trapped t) = Ends here allowed (over (P.Trapped t) σ left)
 Follows here there budget allowed σ slots left Spent = Ends here allowed (over P.Spent σ left)
 
+-- code follows what a body ran to
 abbrev pub FollowsRan : Going → (State → List Value → ℕ → Going) → ℕ → ℕ → Ran → Type 0
 FollowsRan here there budget allowed ran = Follows here there budget allowed ran.state ran.slots ran.budget
     ran.finish
 
+-- code that leads to code that leads on leads on
 pub leads_then : (here mid there : Going) (budget allowed middle left : ℕ) →
     Leads here mid budget allowed middle → Leads mid there middle (2 * middle) left →
     Leads here there budget allowed left
@@ -52,6 +54,7 @@ leads_then here mid there budget allowed middle left a b = record {
   by = λ k. let y = b.by k in let x = a.by y.0 in (x.0, omega (arith, x.1, y.1), x.2 ∙ y.2);
 }
 
+-- code that leads to code that ends ends
 pub ends_then : (here mid : Going) (budget allowed middle : ℕ) (passed : Option Passed) →
     Leads here mid budget allowed middle → Ends mid (2 * middle) passed → Ends here allowed passed
 ends_then here mid budget allowed middle passed a b =
@@ -138,6 +141,7 @@ module _ (p : Program) (box method : ℕ) (ws : List Waiting) (plain : Bool) whe
   accepting found σ left k = went_on (accepted (left_at box method ws plain) found (last_of ws)) σ left
       (chain p k)
 
+  -- a caller goes on after a rejection
   abbrev pub rejecting : Bool → State → ℕ → Going
   rejecting plainly σ left k = went_on (rejected (left_at box method ws plain) plainly (last_of ws)) σ left
       (chain p k)
@@ -153,6 +157,7 @@ module _ (p : Program) (box method : ℕ) (ws : List Waiting) (plain : Bool) whe
       Ends here allowed (over (P.Trapped t) σ left)
   CallFollows total here budget allowed O.Spent found σ left = Ends here allowed (over P.Spent σ left)
 
+  -- code follows what a call came to
   abbrev pub FollowsCalled : Bool → Going → ℕ → ℕ → Called → Type 0
   FollowsCalled total here budget allowed called =
       CallFollows total here budget allowed called.outcome called.result called.state called.budget

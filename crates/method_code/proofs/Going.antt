@@ -24,6 +24,7 @@ abbrev pub turn_of : Method → ℕ → ℕ → (ℕ → List Value → List Val
 turn_of m method zero to vs ss = leaves method 0 vs E.Spent
 turn_of m method (suc left) to vs ss = runs m method left to vs ss
 
+-- a run settles what the walk halts at
 pub runs_is : (m : Method) (method budget at : ℕ) (vars slots : List Value) →
     runs m method budget at vars slots
     ≡ settled m method budget (turn_of m method budget) (walk (drop at m.instructions) at 0 vars slots)
@@ -43,10 +44,10 @@ walk-skips (i ∷ is) at (suc skip) vars slots h =
     walk-skips is (suc at) skip vars slots (omega (arith, h))
     ∙ ap (λ n. walk (drop skip is) n 0 vars slots) e
 
--- the instructions behind a front
-pub behind : (all front back : List Instruction) (at : ℕ) → drop at all ≡ front ++ back →
+-- the instructions after a front
+pub rest_after : (all front back : List Instruction) (at : ℕ) → drop at all ≡ front ++ back →
     drop (at + length front) all ≡ back
-behind all front back at h = sym (drop-drop (length front) at all)
+rest_after all front back at h = sym (drop-drop (length front) at all)
     ∙ (ap (drop (length front)) h ∙ drop_front front back)
   where
     drop_front : (xs ys : List Instruction) → drop (length xs) (xs ++ ys) ≡ ys
@@ -67,7 +68,7 @@ module _ (m : Method) (method : ℕ) where
       does in
       let there : drop (at + 1 + many) m.instructions ≡ drop many rest =
       sym (drop-drop many (at + 1) m.instructions)
-      ∙ ap (drop many) (behind m.instructions (i ∷ []) rest at h) in
+      ∙ ap (drop many) (rest_after m.instructions (i ∷ []) rest at h) in
       let n : suc at + many ≡ at + 1 + many = omega arith in
       let skips : walk rest (suc at) many vars' slots'
       ≡ walk (drop (at + 1 + many) m.instructions) (at + 1 + many) 0 vars' slots' =
@@ -86,6 +87,7 @@ module _ (m : Method) (method : ℕ) where
   Stops M.Reject = Unit {0}
   Stops (M.Trap t) = Unit {0}
 
+  -- a walk halts at an instruction that stops it
   stopped : (at : ℕ) (a : Acted) (move : Move) (next : ℕ → List Value → List Value → Halted) → Stops move →
       walked move at a next ≡ halts at a
   stopped at a (M.On many) next s = absurd s

@@ -24,6 +24,7 @@ has_size (V.Seq zs) = list_all fits zs
 abbrev pub has_kind : Kind → Value → Bool
 has_kind k v = is_kind k (kind_of v) && has_size v
 
+-- values have these kinds, one by one
 abbrev pub have_kinds : List Kind → List Value → Bool
 have_kinds [] [] = true
 have_kinds [] (v ∷ vs) = false

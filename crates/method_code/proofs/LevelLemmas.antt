@@ -11,6 +11,7 @@ use Rattle.seuss_program.specs.Programs.{level_of, level_in}
 use Rattle.seuss_program.specs.Keeping.{Keeps, KeepsBox, above}
 use Rattle.method_code.proofs.Places.{get_all}
 
+-- nothing is not something
 none_some : {A : Type 0} (x : A) → None ≡ Some x → ⊥
 none_some x h = cc
 
@@ -24,6 +25,7 @@ without : ℕ → List ℕ → List ℕ
 without k [] = []
 without k (n ∷ ns) = if nat_eq n k then without k ns else n ∷ without k ns
 
+-- without a number a list is no longer
 without_less : (k : ℕ) (ns : List ℕ) → length (without k ns) ≤ length ns
 unfolding without
 without_less k [] = omega arith
@@ -34,6 +36,7 @@ without_less k (n ∷ ns) = by (nat_eq n k) (without_less k ns)
     by true h = omega (arith, h)
     by false h = omega (arith, h)
 
+-- without a number that stands in it a list is shorter
 without_fewer : (k : ℕ) (ns : List ℕ) → Stands k ns → length (without k ns) < length ns
 unfolding without
 without_fewer k [] s = elim s [ ]
@@ -50,6 +53,7 @@ without_fewer k (n ∷ ns) (inr s) = by (nat_eq n k) (without_fewer k ns s)
     by true h = omega (arith, h)
     by false h = omega (arith, h)
 
+-- a lower number still stands in it
 without_stands : (k j : ℕ) (ns : List ℕ) → j < k → Stands j ns → Stands j (without k ns)
 unfolding without
 without_stands k j [] less s = elim s [ ]
@@ -86,11 +90,13 @@ above_is k (x ∷ ns) h = by (cases_lt (x + 1) (above ns)) (above_is k ns)
     by (inl less) go = inr (go (omega (arith, h, less)))
     by (inr less) go = inl (omega (arith, h, less))
 
+-- a number among images is the image of one
 stands_map : (f : ℕ → ℕ) (k : ℕ) (ns : List ℕ) → Stands k (map f ns) → (n : ℕ) × (f n ≡ k)
 stands_map f k [] s = elim s [ ]
 stands_map f k (n ∷ ns) (inl e) = (n, e)
 stands_map f k (n ∷ ns) (inr s) = stands_map f k ns s
 
+-- the level of a box stands among the levels of all
 level_among : (boxes : List BoxInfo) (n : ℕ) (b : BoxInfo) → slice_get boxes n ≡ Some b →
     Stands b.level (map (λ (x : BoxInfo). x.level) boxes)
 level_among [] n b h = absurd (none_some b h)
@@ -105,6 +111,7 @@ module _ (p : Program) (keeps : Keeps p) where
   abbrev levels : List ℕ
   levels = 0 ∷ map (λ (b : BoxInfo). b.level) p.boxes
 
+  -- the level of any number stands among the levels
   level_stands : (box : ℕ) → Stands (level_of p box) levels
   level_stands box = by (slice_get p.boxes box) refl
     where
@@ -130,6 +137,7 @@ module _ (p : Program) (keeps : Keeps p) where
           (sym (get_all (KeepsBox p) p.boxes box b found keeps.boxes).level ∙ (sym here ∙ e))) in
           go below.0 below.1 lower
 
+  -- a checked program has levels up to 128
   pub levels_few : (box : ℕ) → level_of p box ≤ 128
   levels_few box =
       let less = all_below (level_of p box) levels (λ j le. lower_levels (level_of p box) box j refl le) in

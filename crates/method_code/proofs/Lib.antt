@@ -2,6 +2,7 @@ pub mod WalkLemmas
 pub mod CodeLemmas
 pub mod StackLemmas
 pub mod NumberLemmas
+pub mod PlanLemmas
 pub mod States
 pub mod Going
 pub mod Following
@@ -16,15 +17,19 @@ pub mod LevelLemmas
 pub mod CodeCalls
 pub mod StepEnds
 pub mod Phases
+pub mod RecordLemmas
 pub mod Rows
 pub mod IdleSteps
 pub mod SingleRuns
 pub mod ActionLemmas
 pub mod KindLists
+pub mod TypingLaws
 pub mod TypedValues
 pub mod PassLemmas
 pub mod SafeCode
 pub mod SafeProcedures
 pub mod NamedCalls
+pub mod CodedCalls
+pub mod TextCalls
 pub mod EntryFrames
 pub mod Activations

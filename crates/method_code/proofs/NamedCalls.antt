@@ -46,13 +46,14 @@ use Rattle.seuss_program.specs.Lines.{IsIn, calls_of, calls_step, body_calls, ea
 use Rattle.method_code.proofs.Statements.{each, each_each, code-layer, fits-layer}
 use Rattle.method_code.proofs.Simulation.{and_left, and_right}
 
--- a list of which each item has a property, as membership says it
-in_left : {A : Type 0} (x : A) (xs ys : List A) → IsIn x xs → IsIn x (xs ++ ys)
+-- an item of one of two lists is an item of both together
+pub in_left : {A : Type 0} (x : A) (xs ys : List A) → IsIn x xs → IsIn x (xs ++ ys)
 in_left x [] ys h = elim h [ ]
 in_left x (y ∷ xs) ys (inl e) = inl e
 in_left x (y ∷ xs) ys (inr h) = inr (in_left x xs ys h)
 
-in_right : {A : Type 0} (x : A) (xs ys : List A) → IsIn x ys → IsIn x (xs ++ ys)
+-- an item of the second list is an item of both together
+pub in_right : {A : Type 0} (x : A) (xs ys : List A) → IsIn x ys → IsIn x (xs ++ ys)
 in_right x [] ys h = h
 in_right x (y ∷ xs) ys h = inr (in_right x xs ys h)
 
@@ -64,6 +65,7 @@ pub record CodeOf (calls : List (Call Ref)) (target called : ℕ) : Type 0 where
   pub target_is : given_number call.target ≡ target
   pub method_is : method_of call.method ≡ called
 
+-- a call of the first texts is one of both
 left_of : (xs ys : List (Call Ref)) (t c : ℕ) → CodeOf xs t c → CodeOf (xs ++ ys) t c
 left_of xs ys t c h = record {
   call = h.call;
@@ -73,6 +75,7 @@ left_of xs ys t c h = record {
   method_is = h.method_is;
 }
 
+-- a call of the second texts is one of both
 right_of : (xs ys : List (Call Ref)) (t c : ℕ) → CodeOf ys t c → CodeOf (xs ++ ys) t c
 right_of xs ys t c h = record {
   call = h.call;
@@ -93,15 +96,18 @@ CallIn calls (I.Take name) = Unit {0}
 CallIn calls I.Return = Unit {0}
 CallIn calls I.Reject = Unit {0}
 
+-- each instruction calls what is among these
 abbrev pub CallsIn : List (Call Ref) → List Instruction → Type 0
 CallsIn calls [] = Unit {0}
 CallsIn calls (i ∷ is) = CallIn calls i × CallsIn calls is
 
+-- two parts of code call what is among these where both do
 calls_append : (calls : List (Call Ref)) (xs ys : List Instruction) → CallsIn calls xs → CallsIn calls ys →
     CallsIn calls (xs ++ ys)
 calls_append calls [] ys a b = b
 calls_append calls (x ∷ xs) ys a b = (a.0, calls_append calls xs ys a.1 b)
 
+-- a rest of code does where the code does
 calls_drop : (calls : List (Call Ref)) (n : ℕ) (xs : List Instruction) → CallsIn calls xs →
     CallsIn calls (drop n xs)
 calls_drop calls zero xs a = a
@@ -124,15 +130,18 @@ calls_wider few many f (i ∷ is) a = (by i a.0, calls_wider few many f is a.1)
     by I.Return a = tt
     by I.Reject a = tt
 
-calls-layer : (d : Statement-F Ref (Statement Ref)) →
+-- the calls of a statement, by those of the statements inside it
+pub calls-layer : (d : Statement-F Ref (Statement Ref)) →
     calls_of (roll-Statement Ref d) ≡ calls_step
     (map-Statement Ref (Statement Ref) (List (Call Ref)) calls_of d)
 unfolding calls_of
 calls-layer d = fold-roll-Statement Ref (List (Call Ref)) calls_step d
 
+-- the calls in the bodies of alternatives
 abbrev alt_calls : List (Alternative Ref) → List (Call Ref)
 alt_calls alts = flat_map (λ (a : Alternative Ref). flat_map calls_of a.body) alts
 
+-- the preprocedures of alternatives
 abbrev alt_pres : List (Alternative Ref) → List (Call Ref)
 alt_pres alts = flat_map (λ (a : Alternative Ref). pre_calls a.pre) alts
 
@@ -142,12 +151,14 @@ HeadsIn calls [] = Unit {0}
 HeadsIn calls (h ∷ hs) = ((call : CallCode) → h.early ≡ Some call → CodeOf calls call.target call.method)
     × HeadsIn calls hs
 
+-- heads among more calls
 heads_wider : (few many : List (Call Ref)) → ((t c : ℕ) → CodeOf few t c → CodeOf many t c) →
     (hs : List Head) → HeadsIn few hs → HeadsIn many hs
 heads_wider few many f [] a = tt
 heads_wider few many f (h ∷ hs) a =
     (λ call e. f call.target call.method (a.0 call e), heads_wider few many f hs a.1)
 
+-- the heads of an entry are among these
 abbrev pub EntryIn : List (Call Ref) → Entry → Type 0
 EntryIn calls N.Total = Unit {0}
 EntryIn calls (N.Partial hs) = HeadsIn calls hs
@@ -159,6 +170,7 @@ module _ (s : Scope)
   CodeSo : Statement Ref → Type 0
   CodeSo t = IsTrue (statement_fits s t) → CallsIn (calls_of t) (code_of t)
 
+  -- a statement, by the statements inside it
   layer_code : (d : Statement-F Ref (Statement Ref)) →
       (IsTrue (K.statement_step s (map-Statement Ref (Statement Ref) Bool (statement_fits s) d)) →
       CallsIn (calls_step (map-Statement Ref (Statement Ref) (List (Call Ref)) calls_of d))
@@ -169,6 +181,7 @@ module _ (s : Scope)
       (subst (λ l. CallsIn l (code_step (map-Statement Ref (Statement Ref) (List Instruction) code_of d)))
       (sym (calls-layer d)) (h (subst (λ b. IsTrue b) (fits-layer s d) fit)))
 
+  -- all parts call what is among the calls of all
   joined_calls : {X : Type 0} (code : X → List Instruction) (calls : X → List (Call Ref)) (test : X → Bool)
       → ((x : X) → IsTrue (test x) → CallsIn (calls x) (code x)) → (xs : List X) →
       IsTrue (all_true (map test xs)) →
@@ -183,6 +196,7 @@ module _ (s : Scope)
       (joined_calls code calls test h xs (and_right (test x) _ ok)))
 
   module _ (X : Type 0) (f : X → Statement Ref) (each_code : (x : X) → CodeSo (f x)) where
+    -- the statements inside a statement
     inner : (xs : List X) → IsTrue (all_true (each (statement_fits s) (each f xs))) →
         CallsIn (flat_map (λ cs. cs) (each calls_of (each f xs))) (joined (each code_of (each f xs)))
     unfolding CodeSo
@@ -194,6 +208,7 @@ module _ (s : Scope)
         (joined_calls (λ x. code_of (f x)) (λ x. calls_of (f x)) (λ x. statement_fits s (f x)) each_code
         xs (subst (λ l. IsTrue (all_true l)) (each_each f (statement_fits s) xs) fit)))
 
+    -- one layer of a statement
     layer : (y : Statement-F Ref X) → CodeSo (roll-Statement Ref (map-Statement Ref X (Statement Ref) f y))
     layer (S.Let name kind e) = layer_code (S.Let name kind e) (λ fit. (tt, tt))
     layer (S.Assign name e) = layer_code (S.Assign name e) (λ fit. (tt, tt))
@@ -230,11 +245,13 @@ module _ (s : Scope)
           (inner turn (and_right (is_of KV.Bool (kind_in s cond)) _ fit)) (tt, tt),
     ))
 
+  -- the code of a statement that fits has its calls
   statement_calls : (t : Statement Ref) → IsTrue (statement_fits s t) → CallsIn (calls_of t) (code_of t)
   unfolding CodeSo
   statement_calls = ind-Statement Ref CodeSo
       (λ x y is. subst (λ z. CodeSo (roll-Statement Ref z)) is (layer _ (λ e. e.0) (λ e. e.1) y))
 
+  -- the code of a body that fits has its calls
   named_body : (ts : List (Statement Ref)) → IsTrue (body_fits s ts) →
       CallsIn (flat_map calls_of ts) (flat_map code_of ts)
   named_body [] fit = tt
@@ -246,6 +263,7 @@ module _ (s : Scope)
       (calls_wider rest (calls_of t ++ rest) (λ n c k. right_of (calls_of t) rest n c k)
       (flat_map code_of ts) (named_body ts (and_right (statement_fits s t) _ fit)))
 
+  -- the code of alternatives that fit has the calls of their bodies
   named_alternatives : (alts : List (Alternative Ref)) → IsTrue (alternatives_fit s alts) →
       CallsIn (alt_calls alts) (flat_map alternative_code alts)
   named_alternatives [] fit = tt
@@ -271,6 +289,7 @@ module _ (s : Scope)
       last true = (tt, tt)
       last false = (tt, tt)
 
+  -- alternatives that fit begin with the preprocedures of their text
   named_heads : (at : ℕ) (alts : List (Alternative Ref)) → IsTrue (alternatives_fit s alts) →
       HeadsIn (alt_pres alts) (heads at alts)
   named_heads at [] fit = tt
@@ -302,6 +321,7 @@ module _ (s : Scope)
           same : Some (call_code pre.call) ≡ Some call → call_code pre.call ≡ call
           same e = cc
 
+  -- the code of a form that fits has its calls
   pub named_form : (f : Form Ref) → IsTrue (form_fits s f) →
       CallsIn (body_calls f) (form_code f) × EntryIn (early_calls f) (entry_of f)
   named_form (F.Total ts) fit = (
@@ -325,6 +345,7 @@ module _ (late early : List (Call Ref)) where
   EndNamed (E.Trapped t) = Unit {0}
   EndNamed E.Spent = Unit {0}
 
+  -- a call after an instruction is among these
   abbrev MoveNamed : Move → Type 0
   MoveNamed (M.On many) = Unit {0}
   MoveNamed (M.Back many) = Unit {0}
@@ -333,6 +354,7 @@ module _ (late early : List (Call Ref)) where
   MoveNamed M.Reject = Unit {0}
   MoveNamed (M.Trap t) = Unit {0}
 
+  -- a name that takes a value calls nothing
   put_named : (name : Ref) (v : Value) (vars slots : List Value) → MoveNamed (put name v vars slots).move
   put_named (R.Var k) v vars slots = tt
   put_named (R.Slot k) v vars slots = tt
@@ -340,6 +362,7 @@ module _ (late early : List (Call Ref)) where
   put_named (R.Method k) v vars slots = tt
   put_named (R.Cat k) v vars slots = tt
 
+  -- an instruction calls what is among these
   acted_named : (i : Instruction) → CallIn late i → (vars slots : List Value) →
       MoveNamed (acted i vars slots).move
   acted_named (I.Set name e) c vars slots = by (value e vars slots)
@@ -376,6 +399,7 @@ module _ (late early : List (Call Ref)) where
   acted_named I.Return c vars slots = tt
   acted_named I.Reject c vars slots = tt
 
+  -- and so does what a walk halts at
   walked_named : (move : Move) (at : ℕ) (a : Acted) (next : ℕ → List Value → List Value → Halted) →
       MoveNamed a.move →
       ((skip : ℕ) (vars slots : List Value) → MoveNamed (next skip vars slots).move) →
@@ -387,6 +411,7 @@ module _ (late early : List (Call Ref)) where
   walked_named M.Reject at a next here there = here
   walked_named (M.Trap t) at a next here there = here
 
+  -- a walk halts at a call among these, if at any
   walk_named : (is : List Instruction) (at skip : ℕ) (vars slots : List Value) → CallsIn late is →
       MoveNamed (walk is at skip vars slots).move
   walk_named [] at skip vars slots h = tt
@@ -395,6 +420,7 @@ module _ (late early : List (Call Ref)) where
       walked_named (acted i vars slots).move at (acted i vars slots) (walk is (suc at))
       (acted_named i h.0 vars slots) (λ skip vs ss. walk_named is (suc at) skip vs ss h.1)
 
+  -- a step that settles ends by a call among these, if by any
   settled_named : (m : Method) (method budget : ℕ) (turn : ℕ → List Value → List Value → Stepped)
       (h : Halted) (move : Move) → MoveNamed move →
       ((to : ℕ) (vars slots : List Value) → EndNamed (turn to vars slots).end) →
@@ -407,6 +433,7 @@ module _ (late early : List (Call Ref)) where
   settled_named m method budget turn h M.Reject n turns = tt
   settled_named m method budget turn h (M.Trap t) n turns = tt
 
+  -- so does a step from an instruction
   runs_named : (m : Method) (method budget at : ℕ) (vars slots : List Value) → CallsIn late m.instructions →
       EndNamed (runs m method budget at vars slots).end
   runs_named m method zero at vars slots calls =
@@ -420,11 +447,13 @@ module _ (late early : List (Call Ref)) where
       (walk_named (drop at m.instructions) at 0 vars slots (calls_drop late at m.instructions calls))
       (λ to vs ss. runs_named m method left to vs ss calls)
 
+  -- the chosen alternative begins with a call among these
   abbrev HeadNamed : Result (Option Head) Trap → Type 0
   HeadNamed (Err t) = Unit {0}
   HeadNamed (Ok None) = Unit {0}
   HeadNamed (Ok (Some h)) = (call : CallCode) → h.early ≡ Some call → CodeOf early call.target call.method
 
+  -- the first alternative that holds is one of the heads
   head_named : (hs : List Head) (vars slots : List Value) → HeadsIn early hs →
       HeadNamed (chosen_head hs vars slots)
   head_named [] vars slots each = tt
@@ -440,6 +469,7 @@ module _ (late early : List (Call Ref)) where
       by (Err t) others = tt
       by (Ok v) others = either (bool_of v) others
 
+  -- a chosen alternative ends a step by a call among these, if by any
   chosen_named : (m : Method) (method budget : ℕ) (r : Result (Option Head) Trap) (vars slots : List Value)
       → CallsIn late m.instructions → HeadNamed r → EndNamed (T.chosen m method budget r vars slots).end
   chosen_named m method budget (Err t) vars slots calls ok = tt
@@ -458,6 +488,7 @@ module _ (late early : List (Call Ref)) where
       by None ok = runs_named m method budget h.start vars slots calls
       by (Some call) ok = called call (ok call refl) (arguments call.args vars slots)
 
+  -- so does a step from an entry
   entered_named : (m : Method) (method budget : ℕ) (e : Entry) (vars slots : List Value) →
       CallsIn late m.instructions → EntryIn early e → EndNamed (entered m method budget e vars slots).end
   entered_named m method budget N.Total vars slots calls heads =
@@ -466,6 +497,7 @@ module _ (late early : List (Call Ref)) where
       chosen_named m method budget (chosen_head hs vars slots) vars slots calls
       (head_named hs vars slots heads)
 
+  -- so does a step from any place
   pub placed_named : (m : Method) (method budget place : ℕ) (vars slots : List Value) →
       CallsIn late m.instructions → EntryIn early m.entry →
       EndNamed (from_place m method budget place vars slots).end

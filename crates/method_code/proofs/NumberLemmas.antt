@@ -18,6 +18,7 @@ here [] n h e = absurd (omega (arith, h))
 here (x ∷ xs) zero h e = none-some x (sym e)
 here (x ∷ xs) (suc n) h e = here xs n (omega (arith, h)) e
 
+-- a value that is found is one value
 pub same_some : {X : Type 0} (x y : X) → Some x ≡ Some y → x ≡ y
 same_some x y h = ap (λ o. unwrap_or o x) h
 
@@ -42,18 +43,21 @@ count-through (d ∷ cats) (suc n) c h =
       length-append (map method_code d.procs) (cats_code (take n cats)),
     )
 
+-- an item of the first list
 get-front : {X : Type 0} (xs ys : List X) (n : ℕ) (x : X) → slice_get xs n ≡ Some x →
     slice_get (xs ++ ys) n ≡ Some x
 get-front [] ys n x h = absurd (none-some x h)
 get-front (y ∷ xs) ys zero x h = h
 get-front (y ∷ xs) ys (suc n) x h = get-front xs ys n x h
 
-get-behind : {X : Type 0} (xs ys : List X) (n : ℕ) → slice_get (xs ++ ys) (length xs + n) ≡ slice_get ys n
-get-behind [] ys n = let e : 0 + n ≡ n = omega arith in ap (slice_get ys) e
-get-behind (x ∷ xs) ys n =
+-- an item after the first list
+get-after : {X : Type 0} (xs ys : List X) (n : ℕ) → slice_get (xs ++ ys) (length xs + n) ≡ slice_get ys n
+get-after [] ys n = let e : 0 + n ≡ n = omega arith in ap (slice_get ys) e
+get-after (x ∷ xs) ys n =
     let e : length (x ∷ xs) + n ≡ suc (length xs + n) = omega arith in
-    ap (slice_get (x ∷ (xs ++ ys))) e ∙ get-behind xs ys n
+    ap (slice_get (x ∷ (xs ++ ys))) e ∙ get-after xs ys n
 
+-- an item of images
 get-map : {X Y : Type 0} (f : X → Y) (xs : List X) (n : ℕ) (x : X) → slice_get xs n ≡ Some x →
     slice_get (map f xs) n ≡ Some (f x)
 get-map f [] n x h = absurd (none-some x h)
@@ -77,7 +81,7 @@ code-at (d ∷ cats) (suc n) k c q h at =
     ≡ length (map method_code d.procs) + (length (cats_code (take n cats)) + k) =
     omega (arith, length-append (map method_code d.procs) (cats_code (take n cats))) in
     ap (slice_get (map method_code d.procs ++ cats_code cats)) e
-    ∙ (get-behind (map method_code d.procs) (cats_code cats) (length (cats_code (take n cats)) + k)
+    ∙ (get-after (map method_code d.procs) (cats_code cats) (length (cats_code (take n cats)) + k)
     ∙ code-at cats n k c q h at)
 
 module _ (p : Program) (box number : ℕ) where
@@ -87,15 +91,18 @@ module _ (p : Program) (box number : ℕ) where
       (option_and_then (λ (c : Cat Ref). slice_get c.procs number)
       (option_and_then (λ (b : BoxInfo). slice_get p.cats b.cat) o))
 
+  -- the number of a procedure, by its cat
   abbrev through_cat : ℕ → Option (Cat Ref) → ℕ
   through_cat cat o = number_at p cat number (option_and_then (λ (c : Cat Ref). slice_get c.procs number) o)
 
+  -- a procedure that is there counts on from those of the cats before
   number-there : (cat : ℕ) (c : Cat Ref) (o : Option (Proc Ref)) → slice_get c.procs number ≡ o →
       number < length c.procs →
       number_at p cat number o ≡ length (cats_code (take cat p.cats)) + number
   number-there cat c None h within = absurd (here c.procs number within h)
   number-there cat c (Some q) h within = refl
 
+  -- the number of a procedure of a box, by its cat
   pub number-is : (info : BoxInfo) (c : Cat Ref) → slice_get p.boxes box ≡ Some info →
       slice_get p.cats info.cat ≡ Some c → number < length c.procs →
       number_of p box number ≡ length (cats_code (take info.cat p.cats)) + number
@@ -115,6 +122,7 @@ module _ (p : Program) (box number : ℕ) where
       found None e = slice_get_past (compiled p) (length (compiled p)) (omega arith)
       found (Some q) e = code-at p.cats info.cat number c q h e
 
+  -- what stands at the number of a procedure, by its box
   found-box : (o : Option BoxInfo) → slice_get p.boxes box ≡ o →
       slice_get (compiled p) (through_box o) ≡ option_map method_code
       (option_and_then (λ (c : Cat Ref). slice_get c.procs number)
@@ -122,6 +130,7 @@ module _ (p : Program) (box number : ℕ) where
   found-box None h = slice_get_past (compiled p) (length (compiled p)) (omega arith)
   found-box (Some info) h = found-cat info (slice_get p.cats info.cat) refl
 
+  -- at the number of a procedure stands its code, if it is there
   pub code-found : slice_get (compiled p) (number_of p box number)
       ≡ option_map method_code (procedure_of p box number)
   code-found = found-box (slice_get p.boxes box) refl

@@ -47,6 +47,7 @@ pub is-over : (p : Program) (m : ℕ) (t : Turned) (end : PassEnd) (σ : State) 
     went_on t σ left (chain p m) ≡ Some (record { end = end; state = σ; budget = left })
 is-over p m t end σ left h = ap (λ (x : Turned). went_on x σ left (chain p m)) h
 
+-- what is found is one value
 same-passed : (x y : Passed) → Some x ≡ Some y → x ≡ y
 same-passed x y h = ap (λ o. unwrap_or o x) h
 
@@ -74,6 +75,7 @@ pub turned-next : (f : Turn) (box : ℕ) (t : Turned) (a : Activation) → f ≡
     t ≡ Next a
 turned-next f box t a is turns = (subst (λ (f : Turn). Turns (Ok f) t a) is turns).0
 
+-- a pass that is over turned so
 pub turned-over : (f : Turn) (end : PassEnd) (t : Turned) (a : Activation) → f ≡ T.Over end →
     Turns (Ok f) t a → t ≡ Over end
 turned-over f end t a is turns = subst (λ (f : Turn). Turns (Ok f) t a) is turns

@@ -32,14 +32,17 @@ use Rattle.method_code.proofs.StepEnds.{RunEnds, FreshEnds, runs_end, fresh_ends
 abbrev pub may_reject : Form Ref → Bool
 may_reject f = not (is_total f)
 
+-- any form
 abbrev pub any_form : Form Ref → Bool
 any_form f = true
 
+-- a partial procedure may reject
 pub partial_rejects : (f : Form Ref) → IsTrue (is_partial f) → IsTrue (may_reject f)
 partial_rejects (F.Total ts) h = absurd (true≢false (sym h))
 partial_rejects (F.Partial alts) h = refl
 partial_rejects (F.Action alts) h = refl
 
+-- an action may reject
 pub action_rejects : (f : Form Ref) → IsTrue (is_action f) → IsTrue (may_reject f)
 action_rejects (F.Total ts) h = absurd (true≢false (sym h))
 action_rejects (F.Partial alts) h = refl
@@ -51,7 +54,7 @@ pub record InCode (p : Program) (form : Form Ref → Bool) (box method : ℕ) : 
   pub of : FormAt p form box number
   pub is_of : method ≡ number_of p box number
 
--- a procedure that waits behind an instruction that takes a result
+-- a procedure that waits after an instruction that takes a result
 pub record Waits (p : Program) (form : Form Ref → Bool) (w : Waiting) : Type 0 where
   pub code : InCode p form w.box_number w.frame.method
   pub place : 2 ≤ w.frame.place
@@ -66,11 +69,13 @@ abbrev pub Each : (Waiting → Type 0) → List Waiting → Type 0
 Each W [] = Unit {0}
 Each W (w ∷ ws) = W w × Each W ws
 
+-- one more that waits
 pub each_push : (W : Waiting → Type 0) (ws : List Waiting) (w : Waiting) → Each W ws → W w →
     Each W (ws ++ w ∷ [])
 each_push W [] w each h = (h, tt)
 each_push W (x ∷ ws) w each h = (each.0, each_push W ws w each.1 h)
 
+-- one of those that wait
 pub each_get : (W : Waiting → Type 0) (ws : List Waiting) (n : ℕ) (w : Waiting) → Each W ws →
     slice_get ws n ≡ Some w → W w
 each_get W [] n w each h = absurd (none_some h)
@@ -83,16 +88,19 @@ each_get W (x ∷ ws) zero w each h = subst W (same h) each.0
     same h = cc
 each_get W (x ∷ ws) (suc n) w each h = each_get W ws n w each.1 h
 
+-- the first of those that wait
 pub each_take : (W : Waiting → Type 0) (n : ℕ) (ws : List Waiting) → Each W ws → Each W (take n ws)
 each_take W zero ws each = tt
 each_take W (suc n) [] each = tt
 each_take W (suc n) (x ∷ ws) each = (each.0, each_take W n ws each.1)
 
+-- each by what follows from it
 pub each_as : (V W : Waiting → Type 0) → ((w : Waiting) → V w → W w) → (ws : List Waiting) → Each V ws →
     Each W ws
 each_as V W f [] each = tt
 each_as V W f (w ∷ ws) each = (f w each.0, each_as V W f ws each.1)
 
+-- a number above 0 is not 0
 not_zero : (n : ℕ) → 1 ≤ n → (n == 0) ≡ false
 not_zero n h = grind (arith, h)
 
@@ -121,6 +129,7 @@ pub record After (p : Program) (a : Activation) : Type 0 where
   pub waits : Each (Waits p any_form) a.waiting
   pub plain : a.plain ≡ false
 
+-- a total form begins with its first instruction
 total_entry : (f : Form Ref) → IsTrue (is_total f) → entry_of f ≡ N.Total
 total_entry (F.Total ts) h = refl
 total_entry (F.Partial alts) h = absurd (true≢false (sym h))
@@ -132,6 +141,7 @@ rejecting_entry (F.Total ts) h = absurd (true≢false (sym h))
 rejecting_entry (F.Partial alts) h = (heads 1 alts, refl)
 rejecting_entry (F.Action alts) h = (heads 1 alts, refl)
 
+-- the code of a form that may reject begins with the rejection
 rejecting_code : (f : Form Ref) → IsTrue (may_reject f) → (is : List _) × (form_code f ≡ I.Reject ∷ is)
 rejecting_code (F.Total ts) h = absurd (true≢false (sym h))
 rejecting_code (F.Partial alts) h = (_, refl)
@@ -139,6 +149,7 @@ rejecting_code (F.Action alts) h = (_, refl)
 
 module _ (p : Program) where
   module _ (form : Form Ref → Bool) (box method : ℕ) (c : InCode p form box method) where
+    -- the code of the procedure of a frame
     the_code : slice_get (compiled p) method ≡ Some (method_code c.of.procedure)
     the_code = ap (slice_get (compiled p)) c.is_of ∙ coded p box c.number c.of.procedure c.of.there
 
@@ -188,6 +199,7 @@ module _ (p : Program) where
       or_true true = refl
       or_true false = refl
 
+  -- before the commit step no step is late
   pub before_is : (a : Activation) → Before p a → is_late (compiled p) a.frame ≡ false
   before_is a b =
       ap (λ place. not (place == 0) || K.is_total (slice_get (compiled p) a.frame.method)) b.place
@@ -196,6 +208,7 @@ module _ (p : Program) where
 
 module _ (p : Program) (keeps : Keeps p) where
   module _ (form : Form Ref → Bool) (box method : ℕ) (c : InCode p form box method) where
+    -- the calls of the procedure of a frame are as they must be
     the_calls : EachTotal p box (method_code c.of.procedure).instructions
         × EntryEarly p box (method_code c.of.procedure).entry
     the_calls = procedure_calls p keeps box c.number c.of.procedure

@@ -1,9 +1,9 @@
 -- Where the code and the text of a procedure stand, and what a call of a checked program goes to.
-use Rattle.std.proofs.Common.{◌≡◌, ℕ, zero, suc, ◌+◌, ◌<◌, IsTrue, List, [], ◌∷◌, ◌++◌, map, length, take}
+use Rattle.std.proofs.Common.{◌≡◌, ℕ, zero, suc, ◌<◌, IsTrue, List, [], ◌∷◌, map}
 use Rattle.std.proofs.Common.{Option, None, Some, All, option_and_then, refl, sym, ap, ◌∙◌, subst, arith}
-use Rattle.std.proofs.Common.{length-append, le_refl, true≢false}
-use Rattle.std.specs.Prelude.{slice_get}
-use Rattle.std.proofs.lemmas.Option.{slice_get_past, slice_get_within, get_or_from_slice_get}
+use Rattle.std.proofs.Common.{true≢false}
+use Rattle.std.specs.Prelude.{slice_get, option_map}
+use Rattle.std.proofs.lemmas.Option.{slice_get_within, get_or_from_slice_get}
 use Rattle.seuss_program.specs.declared.program.Program.{Program}
 use Rattle.seuss_program.specs.declared.program.BoxInfo.{BoxInfo}
 use Rattle.seuss_program.specs.declared.tree.Ref.{Ref}
@@ -15,52 +15,14 @@ use Rattle.seuss_program.specs.declared.tree.Proc.{Proc}
 use Rattle.seuss_program.specs.Programs.{procedure_of, level_of, level_in, target_of, given_in, method_of}
 use Rattle.seuss_program.specs.Keeping.{Scope, scope_of, Keeps, KeepsBox, KeepsCat, KeepsProcedure}
 use Rattle.seuss_program.specs.Keeping.{given_fit, is_box_of, above, given_cat, cat_at, method_at, called}
-use Rattle.method_code.specs.Codes.{compiled, cats_code, method_code, number_of, number_at, cat_number}
-use Rattle.method_code.specs.Codes.{given_number}
+use Rattle.method_code.specs.Codes.{compiled, method_code, number_of, given_number}
+use Rattle.method_code.proofs.NumberLemmas.{code-found}
 use Rattle.method_code.proofs.Simulation.{and_left, and_right}
 
-get_front : {A : Type 0} (xs ys : List A) (n : ℕ) (x : A) → slice_get xs n ≡ Some x →
-    slice_get (xs ++ ys) n ≡ Some x
-get_front [] ys n x h = cc
-get_front (a ∷ xs) ys zero x h = h
-get_front (a ∷ xs) ys (suc n) x h = get_front xs ys n x h
-
-get_back : {A : Type 0} (xs ys : List A) (n : ℕ) → slice_get (xs ++ ys) (length xs + n) ≡ slice_get ys n
-get_back [] ys n = let e : 0 + n ≡ n = omega arith in ap (slice_get ys) e
-get_back (a ∷ xs) ys n = let e : suc (length xs) + n ≡ suc (length xs + n) = omega arith in
-    ap (slice_get (a ∷ (xs ++ ys))) e ∙ get_back xs ys n
-
-get_map : {A B : Type 0} (f : A → B) (xs : List A) (n : ℕ) (x : A) → slice_get xs n ≡ Some x →
-    slice_get (map f xs) n ≡ Some (f x)
-get_map f [] n x h = cc
-get_map f (a ∷ xs) zero x h = cc
-get_map f (a ∷ xs) (suc n) x h = get_map f xs n x h
-
+-- what holds of all items holds of one
 pub get_all : {A : Type 0} (P : A → Type 0) (xs : List A) (n : ℕ) (x : A) → slice_get xs n ≡ Some x →
     All P xs → P x
 get_all P xs n x h all = subst P (get_or_from_slice_get xs n x x h) (all n x (slice_get_within xs n x h))
-
--- the code of a procedure of a cat
-cats_coded : (cats : List (Cat Ref)) (k n : ℕ) (c : Cat Ref) (q : Proc Ref) → slice_get cats k ≡ Some c →
-    slice_get c.procs n ≡ Some q →
-    slice_get (cats_code cats) (length (cats_code (take k cats)) + n) ≡ Some (method_code q)
-cats_coded [] k n c q h g = cc
-cats_coded (d ∷ cats) zero n c q h g =
-    let same : d ≡ c = some_same h in
-    let e : 0 + n ≡ n = omega arith in
-    ap (slice_get (map method_code d.procs ++ cats_code cats)) e
-    ∙ get_front (map method_code d.procs) (cats_code cats) n (method_code q)
-    (get_map method_code d.procs n q (ap (λ (x : Cat Ref). slice_get x.procs n) same ∙ g))
-  where
-    some_same : Some d ≡ Some c → d ≡ c
-    some_same h = cc
-cats_coded (d ∷ cats) (suc k) n c q h g =
-    let e : length (map method_code d.procs ++ cats_code (take k cats)) + n
-    ≡ length (map method_code d.procs) + (length (cats_code (take k cats)) + n) =
-    omega (arith, length-append (map method_code d.procs) (cats_code (take k cats))) in
-    ap (slice_get (map method_code d.procs ++ cats_code cats)) e
-    ∙ (get_back (map method_code d.procs) (cats_code cats) (length (cats_code (take k cats)) + n)
-    ∙ cats_coded cats k n c q h g)
 
 -- A procedure of a box stands in the cat of the box.
 pub record Stands (p : Program) (box number : ℕ) (q : Proc Ref) : Type 0 where
@@ -70,6 +32,7 @@ pub record Stands (p : Program) (box number : ℕ) (q : Proc Ref) : Type 0 where
   pub cat_there : slice_get p.cats info.cat ≡ Some cat
   pub there : slice_get cat.procs number ≡ Some q
 
+-- a procedure of a box stands in the cat of the box
 pub stands : (p : Program) (box number : ℕ) (q : Proc Ref) → procedure_of p box number ≡ Some q →
     Stands p box number q
 stands p box number q h = in_box (slice_get p.boxes box) refl h
@@ -92,23 +55,17 @@ stands p box number q h = in_box (slice_get p.boxes box) refl h
         none_is h = cc
     in_box (Some b) eb h = in_cat b eb (slice_get p.cats b.cat) refl h
 
--- the code of a procedure has the procedure's number
+-- the code of a procedure stands at the procedure's number
 pub coded : (p : Program) (box number : ℕ) (q : Proc Ref) → procedure_of p box number ≡ Some q →
     slice_get (compiled p) (number_of p box number) ≡ Some (method_code q)
 coded p box number q h =
-    let at = stands p box number q h in
-    ap (λ (o : Option (Proc Ref)). slice_get (compiled p)
-    (number_at p (cat_number (slice_get p.boxes box)) number o)) h
-    ∙ (ap (λ (o : Option BoxInfo). slice_get (compiled p) (number_at p (cat_number o) number (Some q)))
-    at.box_there
-    ∙ cats_coded p.cats at.info.cat number at.cat q at.cat_there at.there)
+    code-found p box number ∙ ap (λ (o : Option (Proc Ref)). option_map method_code o) h
 
+-- where there is no procedure, nothing stands at its number
 pub uncoded : (p : Program) (box number : ℕ) → procedure_of p box number ≡ None →
     slice_get (compiled p) (number_of p box number) ≡ None
 uncoded p box number h =
-    ap (λ (o : Option (Proc Ref)). slice_get (compiled p)
-    (number_at p (cat_number (slice_get p.boxes box)) number o)) h
-    ∙ slice_get_past (compiled p) (length (compiled p)) (le_refl _)
+    code-found p box number ∙ ap (λ (o : Option (Proc Ref)). option_map method_code o) h
 
 -- What a call of a checked program goes to: a procedure of a box that was given, which is of a lower
 -- level.
@@ -127,9 +84,11 @@ record GivenCat (s : Scope) (name : Ref) (c : Cat Ref) : Type 0 where
   cat_named : given.cat ≡ R.Cat cat
   cat_there : slice_get s.cats cat ≡ Some c
 
+-- nothing is not something
 none_some : {A : Type 0} (x : A) → None ≡ Some x → ⊥
 none_some x h = cc
 
+-- a name of a cat is that of a cat that is there
 cat_at_is : (cats : List (Cat Ref)) (name : Ref) (c : Cat Ref) → cat_at cats name ≡ Some c →
     (k : ℕ) × (name ≡ R.Cat k) × (slice_get cats k ≡ Some c)
 cat_at_is cats (R.Cat k) c h = (k, refl, h)
@@ -138,6 +97,7 @@ cat_at_is cats (R.Slot k) c h = absurd (none_some c h)
 cat_at_is cats (R.Given k) c h = absurd (none_some c h)
 cat_at_is cats (R.Method k) c h = absurd (none_some c h)
 
+-- the cat of a given box, by its name
 given_cat_is : (s : Scope) (name : Ref) (c : Cat Ref) → given_cat s name ≡ Some c → GivenCat s name c
 given_cat_is s (R.Given n) c h = by (slice_get s.given n) refl h
   where
@@ -159,6 +119,7 @@ given_cat_is s (R.Slot k) c h = absurd (none_some c h)
 given_cat_is s (R.Method k) c h = absurd (none_some c h)
 given_cat_is s (R.Cat k) c h = absurd (none_some c h)
 
+-- a method of a cat, by its name
 method_at_is : (name : Ref) (c : Cat Ref) (q : Proc Ref) → method_at name c ≡ Some q →
     slice_get c.procs (method_of name) ≡ Some q
 method_at_is (R.Method k) c q h = h
@@ -167,6 +128,7 @@ method_at_is (R.Slot k) c q h = absurd (none_some q h)
 method_at_is (R.Given k) c q h = absurd (none_some q h)
 method_at_is (R.Cat k) c q h = absurd (none_some q h)
 
+-- what a call names
 called_is : (s : Scope) (call : Call Ref) (q : Proc Ref) → called s call ≡ Some q →
     (c : Cat Ref) × GivenCat s call.target c × (slice_get c.procs (method_of call.method) ≡ Some q)
 called_is s call q h = by (given_cat s call.target) refl h
@@ -183,6 +145,7 @@ box_of_is : (o : Option BoxInfo) (k : ℕ) → IsTrue (is_box_of o (R.Cat k)) �
 box_of_is None k h = absurd (true≢false (sym h))
 box_of_is (Some b) k h = (b, refl, grind (arith, h))
 
+-- the box that is given fits what the cat declares
 given_box : (boxes : List BoxInfo) (ns : List ℕ) (gs : List (Given Ref)) (n : ℕ) (g : Given Ref) →
     IsTrue (given_fit boxes ns gs) → slice_get gs n ≡ Some g →
     (t : ℕ) × (slice_get ns n ≡ Some t) × IsTrue (is_box_of (slice_get boxes t) g.cat)
@@ -218,6 +181,7 @@ module _ (p : Program) (keeps : Keeps p) (box number : ℕ) (q : Proc Ref) (at :
   keeps_procedure = get_all (KeepsProcedure p.cats at.cat) at.cat.procs number q at.there
       (get_all (KeepsCat p.cats) p.cats at.info.cat at.cat at.cat_there keeps.cats).procs
 
+  -- the box keeps what a checked one does
   keeps_box : KeepsBox p at.info
   keeps_box = get_all (KeepsBox p) p.boxes box at.info at.box_there keeps.boxes
 

@@ -40,7 +40,7 @@ use Rattle.method_code.specs.Steps as T
 use Rattle.method_code.specs.Steps.{acts, leaves, Stepped, result_in, chosen_head, judged_head, called_early}
 use Rattle.method_code.specs.Chains.{chain, went_on, rejected, last_of, after_accepted, after_rejected}
 use Rattle.method_code.proofs.States.{with_same}
-use Rattle.method_code.proofs.Going.{behind, after, runs_stop}
+use Rattle.method_code.proofs.Going.{rest_after, after, runs_stop}
 use Rattle.method_code.proofs.Following.{Going, over, Leads, Follows, CallFollows, FollowsCalled, Performs}
 use Rattle.method_code.proofs.Following.{accepting, rejecting, start, left_at, leads_then, ends_then}
 use Rattle.method_code.proofs.Simulation.{from, and_left, and_right}
@@ -69,6 +69,7 @@ result_same q slots = by q.gives
 module _ (p : Program) (callee : Callee) (s : Scope) (box : ℕ) (q : Proc Ref) (method : ℕ)
     (ws : List Waiting) (plain : Bool)
     (coded : slice_get (compiled p) method ≡ Some (method_code q)) where
+  -- the pass at an instruction of the procedure
   abbrev here_from : ℕ → State → List Value → ℕ → Going
   here_from at σ slots budget = from p box (method_code q) method ws plain at σ slots budget
 
@@ -110,6 +111,7 @@ module _ (p : Program) (callee : Callee) (s : Scope) (box : ℕ) (q : Proc Ref) 
   body_ends total here at rest budget allowed σ slots left (Trapped t) h a = a
   body_ends total here at rest budget allowed σ slots left Spent h a = a
 
+  -- an alternative ends as its last instruction says
   alternative_ends : (positive : Bool) (here : Going) (at : ℕ) (rest : List Instruction)
       (budget allowed : ℕ) (σ : State) (slots : List Value) (left : ℕ) (f : Finish) →
       drop at (method_code q).instructions ≡ (if positive then I.Return else I.Reject) ∷ rest →
@@ -187,9 +189,11 @@ called_then p box method ws plain here mid budget allowed middle O.Spent found �
 module _ (p : Program) (callee : Callee) (s : Scope) (box : ℕ) (q : Proc Ref) (method : ℕ)
     (ws : List Waiting) (plain : Bool)
     (coded : slice_get (compiled p) method ≡ Some (method_code q)) (calls : TotalCalls p callee s box) where
+  -- the pass at a place
   abbrev goes_from : ℕ → State → List Value → ℕ → Going
   goes_from at σ slots budget = from p box (method_code q) method ws plain at σ slots budget
 
+  -- the pass after a step
   abbrev follows_after : State → Stepped → Going
   follows_after σ stepped n = after p (method_code q) method box ws plain n σ stepped
 
@@ -204,7 +208,7 @@ module _ (p : Program) (callee : Callee) (s : Scope) (box : ℕ) (q : Proc Ref) 
       body_ends p callee s box q method ws plain coded true (goes_from 0 σ slots budget)
       (0 + length (flat_map code_of ts)) [] budget (2 * budget) ran.state ran.slots ran.budget
       ran.finish
-      (behind (method_code q).instructions (flat_map code_of ts) (I.Return ∷ []) 0 h)
+      (rest_after (method_code q).instructions (flat_map code_of ts) (I.Return ∷ []) 0 h)
       ((body_simulates p callee s box (method_code q) method ws plain coded calls ts fits).by 0
       (I.Return ∷ []) σ slots budget h)
 
@@ -222,7 +226,7 @@ module _ (p : Program) (callee : Callee) (s : Scope) (box : ℕ) (q : Proc Ref) 
       alternative_ends p callee s box q method ws plain coded alt.positive (goes_from at σ slots budget)
       (at + length (flat_map code_of alt.body)) post budget (2 * budget) ran.state ran.slots ran.budget
       ran.finish
-      (behind (method_code q).instructions (flat_map code_of alt.body) (last_code alt ++ post) at h')
+      (rest_after (method_code q).instructions (flat_map code_of alt.body) (last_code alt ++ post) at h')
       ((body_simulates p callee s box (method_code q) method ws plain coded calls alt.body fits).by at
       (last_code alt ++ post) σ slots budget h')
 
@@ -283,7 +287,7 @@ module _ (p : Program) (callee : Callee) (s : Scope) (box : ℕ) (q : Proc Ref) 
         (leads_then here back (goes_from (at + 1) ran.state ran.slots ran.budget) budget
         (2 * budget + extra) left ran.budget lead inside)
         (alternative_follows alt (at + 1) post fits
-        (behind (method_code q).instructions (I.Take name ∷ [])
+        (rest_after (method_code q).instructions (I.Take name ∷ [])
         ((flat_map code_of alt.body ++ last_code alt) ++ post) at h) ran.state ran.slots ran.budget)
     after_pre alt name at post slots fewer budget target number here there fits room h one O.Rejected found
         σ left a = (
@@ -380,7 +384,7 @@ module _ (p : Program) (callee : Callee) (s : Scope) (box : ℕ) (q : Proc Ref) 
         judge (value alt.cond (vars_of σ box) slots)
         (alternatives_follow alts (at + length (alternative_code alt))
         (and_right (alternative_fits s alt) _ fits)
-        (behind (method_code q).instructions (alternative_code alt) (flat_map alternative_code alts) at
+        (rest_after (method_code q).instructions (alternative_code alt) (flat_map alternative_code alts) at
         h) σ slots budget)
       where
         one_fits : IsTrue (alternative_fits s alt)

@@ -37,9 +37,11 @@ use Rattle.method_code.proofs.Phases.{WaitsEarly, Each, each_push, each_get, eac
 use Rattle.method_code.proofs.Phases.{Plainly, BeginsLate, After, late_ends, before_ends, rejects_only}
 use Rattle.method_code.proofs.Phases.{late_is, before_is}
 
+-- nothing is not something
 none_some : {A : Type 0} (x : A) → None ≡ Some x → ⊥
 none_some x h = cc
 
+-- what is found is one value
 some_same : {A : Type 0} (x y : A) → Some x ≡ Some y → x ≡ y
 some_same x y h = cc
 
@@ -49,6 +51,7 @@ fewer_wait ws w h = let within = slice_get_within ws (length ws - 1) w h in
     omega (arith, within, length-take (length ws - 1) ws)
 
 module _ (p : Program) (keeps : Keeps p) where
+  -- a procedure of some form is one of any form
   any_code : (form : Form Ref → Bool) (box method : ℕ) → InCode p form box method →
       InCode p any_form box method
   any_code form box method c = record {
@@ -57,10 +60,12 @@ module _ (p : Program) (keeps : Keeps p) where
     is_of = c.is_of;
   }
 
+  -- a procedure that waits for a preprocedure waits
   any_waits : (w : Waiting) → WaitsEarly p w → Waits p any_form w
   any_waits w e = record
       { code = any_code may_reject w.box_number w.frame.method e.waits.code; place = e.waits.place }
 
+  -- a late step is of a procedure that is there
   late_code : (box : ℕ) (frame : Frame) → BeginsLate p box frame → InCode p any_form box frame.method
   late_code box frame (inl b) = b.0
   late_code box frame (inr b) = any_code is_total box frame.method b.0
@@ -99,6 +104,7 @@ module _ (p : Program) (keeps : Keeps p) where
             omega (arith, fewer_wait ws w e, room),
           )
 
+  -- a rejection of a late step leads to late steps or the end
   rejected_turns : (box method : ℕ) (ws : List Waiting) (plain : Bool) (frame : Frame) (most budget : ℕ) →
       Each (Waits p any_form) ws → plain ≡ false → 2 * budget + length ws ≤ most →
       TurnsLate most budget
@@ -174,6 +180,7 @@ module _ (p : Program) (keeps : Keeps p) where
     none : list_any (λ (s : Made). rejects_plainly s.stepped.end) steps ≡ false
     ends : most ≤ length row → (e : PassEnd) × (end ≡ Some e)
 
+  -- a late step doesn't reject plainly
   not_plain : (box method budget : ℕ) (s : Stepped) (end : End) → RunEnds p box method budget s end →
       rejects_plainly end ≡ false
   not_plain box method budget s (E.Call target called args partial) r = refl
@@ -250,6 +257,7 @@ module _ (p : Program) (keeps : Keeps p) where
   TurnsPlainly most (Next a) = Plainly p a × (length a.waiting + 1 ≤ most)
   TurnsPlainly most (Over end) = is_plain end ≡ true
 
+  -- after a plain rejection the callers reject too
   plainly_turns : (a : Activation) (plain : Bool) → Each (WaitsEarly p) a.waiting → plain ≡ true →
       TurnsPlainly (length a.waiting) (rejected a plain (last_of a.waiting))
   plainly_turns a plain waits plainly = by (last_of a.waiting) refl
@@ -283,6 +291,7 @@ module _ (p : Program) (keeps : Keeps p) where
       late : LateRow true row most steps end
       idle : AllIdle steps
 
+  -- what comes after such a step
   plainly_turned : (most budget : ℕ) (row : List (List Value)) →
       ((a : Activation) → Plainly p a → PlainRow row (length a.waiting + 1) (steps_made p row a budget)
       (pass_end p row a budget)) →
@@ -310,6 +319,7 @@ module _ (p : Program) (keeps : Keeps p) where
     idle = tt;
   }
 
+  -- a pass after a plain rejection
   plainly_rows : (row : List (List Value)) (a : Activation) (budget : ℕ) → Plainly p a →
       PlainRow row (length a.waiting + 1) (steps_made p row a budget) (pass_end p row a budget)
   plainly_rows [] a budget h = record {
@@ -416,6 +426,7 @@ module _ (p : Program) (keeps : Keeps p) where
       or_false true = refl
       or_false false = refl
 
+  -- a pass before its commit step
   before_rows : (row : List (List Value)) (a : Activation) (budget : ℕ) → Before p a →
       WholeRow row (2 * budget + length a.waiting + 2 * level_of p a.box_number + 1)
       (steps_made p row a budget) (pass_end p row a budget)
@@ -581,6 +592,7 @@ soon_over p keeps a row budget enough = by (procedure_of p a.box_number a.proced
     by None e = (P.Rejected, none_ends row (uncoded p a.box_number a.procedure e) (omega (arith, enough)))
     by (Some q) e = by_form q e (is_total q.form) refl
 
+-- with a budget up to 1,000,000 a pass is over after 2,000,300 steps
 pub soon_over-small : (p : Program) → Keeps p → (a : ActionInfo) (row : List (List Value)) (budget : ℕ) →
     budget ≤ 1000000 → 2000300 ≤ length row →
     (end : PassEnd) × (pass_end p row (begun p a) budget ≡ Some end)
@@ -590,15 +602,19 @@ soon_over-small p keeps a row budget small many =
 
 module _ (p : Program) (keeps : Keeps p) (a : ActionInfo) (is : IsAction p a) (row : List (List Value))
     (budget : ℕ) (end : PassEnd) (over : pass_end p row (begun p a) budget ≡ Some end) where
+  -- a pass begins before its commit step
   before : Before p (begun p a)
   before = begins_before p a is.procedure is.there (action_rejects is.procedure.form is.form)
 
+  -- a finished pass has one commit step
   pub in_order : IsInOrder (kinds_of (compiled p) (steps_made p row (begun p a) budget))
   in_order = (before_rows p keeps row (begun p a) budget before).order end over
 
+  -- a finished pass is plainly rejected where one of its steps is
   pub plain_is : is_plain end ≡ list_any (λ (s : Made). rejects_plainly s.stepped.end)
       (steps_made p row (begun p a) budget)
   plain_is = (before_rows p keeps row (begun p a) budget before).plain end over
 
+  -- a plainly rejected pass has changed nothing
   pub plain_idle : end ≡ P.PlainRejected → AllIdle (steps_made p row (begun p a) budget)
   plain_idle plain = (before_rows p keeps row (begun p a) budget before).idle end over (ap is_plain plain)

@@ -21,7 +21,6 @@ use Rattle.seuss_program.specs.Values.{Evaluated, value, bool_of}
 use Rattle.seuss_program.specs.Bodies.{arguments, arguments_after, argument_then}
 use Rattle.seuss_program.specs.Keeping.{AreOf, Scope, vars_in, slot_kinds, kind_at, kind_set, kind_in, is_of}
 use Rattle.seuss_program.specs.Keeping.{arguments_fit, bind_fits, param_kinds, is_total, all_true}
-use Rattle.meaning_laws.proofs.ValueKinds.{kind-set as kind_where_set}
 use Rattle.method_code.specs.declared.instruction.Instruction.{Instruction}
 use Rattle.method_code.specs.declared.instruction.Instruction.TheVariants as I
 use Rattle.method_code.specs.declared.instruction.Move.{Move}
@@ -32,14 +31,17 @@ use Rattle.method_code.specs.Codes.{if_code, while_code}
 use Rattle.method_code.specs.Steps.{acts, acted, put, put_value, decided, called_with, last_number}
 use Rattle.method_code.specs.Steps.{all_but_last, Stepped, runs}
 use Rattle.method_code.specs.Frames.{HasVars, IsWaiting, FitsStep}
-use Rattle.method_code.proofs.Going.{behind, runs_on, runs_stop}
+use Rattle.method_code.proofs.Going.{rest_after, runs_on, runs_stop}
 use Rattle.method_code.proofs.Simulation.{and_left, and_right}
 use Rattle.method_code.proofs.KindLists.{has_kind, have_kinds, both_true, to_kinds, number_fits}
+use Rattle.method_code.proofs.TypingLaws.{KindLaws}
 use Rattle.method_code.proofs.TypedValues.{Typed, value_typed}
 
+-- nothing is not something
 pub none_some : {A : Type 0} (x : A) → None ≡ Some x → ⊥
 none_some x h = cc
 
+-- what is found is one value
 pub some_same : {A : Type 0} (x y : A) → Some x ≡ Some y → x ≡ y
 some_same x y h = cc
 
@@ -85,6 +87,7 @@ kinds_front (x ∷ ks) (w ∷ u ∷ vs) k h =
     (both_true (has_kind x w) (have_kinds ks (take (length (u ∷ vs) - 1) (u ∷ vs)))
     (and_left (has_kind x w) _ h) (kinds_front ks (u ∷ vs) k (and_right (has_kind x w) _ h)))
 
+-- what passes the test has the kind
 pub is_of_some : (k : Kind) (o : Option Kind) → IsTrue (is_of k o) → o ≡ Some k
 is_of_some k None h = absurd (true≢false (sym h))
 is_of_some KV.Int (Some KV.Int) h = refl
@@ -102,8 +105,9 @@ abbrev pub ArgsTyped : List Kind → Result (List Value) Trap → Type 0
 ArgsTyped ks (Err t) = Unit {0}
 ArgsTyped ks (Ok values) = IsTrue (have_kinds ks values)
 
-module _ (s : Scope) (vars slots : List Value) (vars_fit : IsTrue (have_kinds s.vars vars))
+module _ (laws : KindLaws) (s : Scope) (vars slots : List Value) (vars_fit : IsTrue (have_kinds s.vars vars))
     (slots_fit : IsTrue (have_kinds s.slots slots)) where
+  -- the values of further arguments have their kinds
   args_after : (front : List Kind) (values : List Value) (es : List (Expr Ref)) (ks : List Kind) →
       IsTrue (have_kinds front values) → IsTrue (arguments_fit s es ks) →
       ArgsTyped (front ++ ks) (arguments_after values es vars slots)
@@ -116,7 +120,7 @@ module _ (s : Scope) (vars slots : List Value) (vars_fit : IsTrue (have_kinds s.
   args_after front values (e ∷ es) [] h fit = absurd (true≢false (sym fit))
   args_after front values (e ∷ es) (k ∷ ks) h fit =
       by (value e vars slots)
-      (value_typed s vars slots vars_fit slots_fit e k
+      (value_typed laws s vars slots vars_fit slots_fit e k
       (is_of_some k (kind_in s e) (and_left (is_of k (kind_in s e)) _ fit)))
       (λ v f. subst (λ l. ArgsTyped l (arguments_after (values ++ v ∷ []) es vars slots))
       (append_assoc front (k ∷ []) ks)
@@ -130,20 +134,24 @@ module _ (s : Scope) (vars slots : List Value) (vars_fit : IsTrue (have_kinds s.
       by (Err t) f go = tt
       by (Ok v) f go = go v f
 
+  -- the values of arguments have their kinds
   pub args_typed : (es : List (Expr Ref)) (ks : List Kind) → IsTrue (arguments_fit s es ks) →
       ArgsTyped ks (arguments es vars slots)
   args_typed es ks fit = args_after [] [] es ks refl fit
 
--- A procedure of a box and what its text sees.
+-- A procedure of a box and what its text sees, with the laws of kinds.
 pub record Text (p : Program) (box number : ℕ) (q : Proc Ref) (s : Scope) : Type 0 where
+  pub laws : KindLaws
   pub there : procedure_of p box number ≡ Some q
   pub vars : s.vars ≡ vars_in (cat_of p box)
   pub slots : s.slots ≡ slot_kinds q
 
 module _ (p : Program) (box number : ℕ) (q : Proc Ref) (s : Scope) (text : Text p box number q s) where
+  -- the code of the procedure
   abbrev the_method : Method
   the_method = method_code q
 
+  -- a step from an instruction
   abbrev pub the_run : ℕ → ℕ → List Value → List Value → Stepped
   the_run at budget vars slots = runs (method_code q) (number_of p box number) budget at vars slots
 
@@ -170,6 +178,7 @@ module _ (p : Program) (box number : ℕ) (q : Proc Ref) (s : Scope) (text : Tex
   Returns (I.Return ∷ is) at most = Returns is (suc at) most
   Returns (I.Reject ∷ is) at most = Returns is (suc at) most
 
+  -- the return places of two parts
   pub returns_append : (xs ys : List Instruction) (at most : ℕ) → Returns xs at most →
       Returns ys (at + length xs) most → Returns (xs ++ ys) at most
   returns_append [] ys at most a b = let e : at + 0 ≡ at = omega arith in subst (λ n. Returns ys n most) e b
@@ -240,13 +249,15 @@ module _ (p : Program) (box number : ℕ) (q : Proc Ref) (s : Scope) (text : Tex
   put_safe at budget most vars slots slots' i rest (R.Cat n) k v h does le safe fv fs is f =
       absurd (none_some k is)
 
+  -- an assignment is safe
   pub set_safe : (name : Ref) (e : Expr Ref) (k : Kind) → kind_set s name ≡ Some k →
       IsTrue (is_of k (kind_in s e)) → Safe (I.Set name e ∷ [])
   set_safe name e k is fit = record {
     by = λ at most post h exit. (
       record {
         by = λ budget vars slots le fv fs. by at most post h exit budget vars slots le fv fs
-            (value e vars slots) refl (value_typed s vars slots fv fs e k (is_of_some k (kind_in s e) fit));
+            (value e vars slots) refl
+            (value_typed text.laws s vars slots fv fs e k (is_of_some k (kind_in s e) fit));
       },
       tt,
     );
@@ -261,11 +272,13 @@ module _ (p : Program) (box number : ℕ) (q : Proc Ref) (s : Scope) (text : Tex
           (ap (λ ev. put_value name ev vars slots) same) fv t refl
       by at most post h exit budget vars slots le fv fs (Ok v) same f =
           put_safe at budget most vars slots slots (I.Set name e) post name k v h
-          (ap (λ ev. put_value name ev vars slots) same) le exit fv fs (kind_where_set s name k is) f
+          (ap (λ ev. put_value name ev vars slots) same) le exit fv fs (text.laws.set s name k is) f
 
+  -- no code is safe
   pub none_safe : Safe []
   none_safe = record { by = λ at most post h exit. (subst (λ n. SafeAt n most) (omega arith) exit, tt) }
 
+  -- two parts are safe where both are
   pub then_safe : (front back : List Instruction) → Safe front → Safe back → Safe (front ++ back)
   then_safe front back a b = record {
     by = λ at most post h exit.
@@ -274,12 +287,13 @@ module _ (p : Program) (box number : ℕ) (q : Proc Ref) (s : Scope) (text : Tex
         let e : at + length (front ++ back) ≡ at + length front + length back =
         omega (arith, length-append front back) in
         let second = b.by (at + length front) most post
-        (behind the_method.instructions front (back ++ post) at h') (subst (λ n. SafeAt n most) e exit)
+        (rest_after the_method.instructions front (back ++ post) at h') (subst (λ n. SafeAt n most) e exit)
         in
         let first = a.by at most (back ++ post) h' second.0 in
         (first.0, returns_append front back at most first.1 second.1);
   }
 
+  -- all parts are safe where each is
   pub all_safe : {X : Type 0} (code : X → List Instruction) (test : X → Bool) →
       ((x : X) → IsTrue (test x) → Safe (code x)) → (xs : List X) → IsTrue (all_true (map test xs)) →
       Safe (joined (map code xs))
@@ -300,7 +314,7 @@ module _ (p : Program) (box number : ℕ) (q : Proc Ref) (s : Scope) (text : Tex
     by = λ budget vars slots le fv fs.
         put_safe at budget most vars slots (all_but_last slots) (I.Take (Some name)) rest name KV.Int
         (V.Int (last_number slots)) h refl le exit fv (kinds_front s.slots slots KV.Int fs)
-        (kind_where_set s name KV.Int (is_of_some KV.Int (kind_set s name) (and_right gives _ fit)))
+        (text.laws.set s name KV.Int (is_of_some KV.Int (kind_set s name) (and_right gives _ fit)))
         (number_fits (s.slots ++ KV.Int ∷ []) slots (length slots - 1) fs);
   }
 
@@ -347,22 +361,25 @@ module _ (p : Program) (box number : ℕ) (q : Proc Ref) (s : Scope) (text : Tex
       taken_there : slice_get (form_code q.form) at ≡ Some (I.Take bind)
       taken_there = get_first (form_code q.form) at (I.Take bind) rest h
 
+  -- a total form is no early one
   total_is : (f : Form Ref) → IsTrue (is_total f) → is_total f ≡ not false
   total_is f h = h
 
+  -- a call is safe
   pub call_safe : (bind : Option Ref) (call : Call Ref) → GoodCall is_total bind call →
       Safe (I.Call (call_code call) ∷ I.Take bind ∷ [])
   call_safe bind call good = record {
     by = λ at most post h exit.
         let next : drop (at + 1) the_method.instructions ≡ I.Take bind ∷ post =
-        behind the_method.instructions (I.Call (call_code call) ∷ []) (I.Take bind ∷ post) at h in
+        rest_after the_method.instructions (I.Call (call_code call) ∷ []) (I.Take bind ∷ post) at h in
         let after : SafeAt (at + 1 + 1) most = subst (λ n. SafeAt n most) (omega arith) exit in
         let e : at + 1 ≡ suc at = omega arith in
         let f : at + 1 + 1 ≡ suc (suc at) = omega arith in (
           record {
             by = λ budget vars slots le fv fs. by at post h next budget vars slots fv fs
                 (arguments call.args vars slots) refl
-                (args_typed s vars slots fv fs call.args (param_kinds good.procedure.params) good.args);
+                (args_typed text.laws s vars slots fv fs call.args (param_kinds good.procedure.params)
+                good.args);
           },
           (
             (
@@ -411,6 +428,7 @@ module _ (p : Program) (box number : ℕ) (q : Proc Ref) (s : Scope) (text : Tex
             );
           })
 
+  -- a choice is safe where its branches are
   pub if_safe : (cond : Expr Ref) (holds fails : List Instruction) → Safe holds → Safe fails →
       Safe (if_code cond holds fails)
   if_safe cond holds fails a b = record {
@@ -420,12 +438,12 @@ module _ (p : Program) (box number : ℕ) (q : Proc Ref) (s : Scope) (text : Tex
         h ∙ ap (λ is. I.SkipUnless cond (length holds + 1) ∷ is)
         (append_assoc holds (I.Skip (length fails) ∷ fails) post) in
         let rest : drop (at + 1) the_method.instructions ≡ holds ++ inner =
-        behind the_method.instructions (I.SkipUnless cond (length holds + 1) ∷ []) (holds ++ inner) at
+        rest_after the_method.instructions (I.SkipUnless cond (length holds + 1) ∷ []) (holds ++ inner) at
         h' in
         let jump : drop (at + 1 + length holds) the_method.instructions ≡ inner =
-        behind the_method.instructions holds inner (at + 1) rest in
+        rest_after the_method.instructions holds inner (at + 1) rest in
         let other : drop (at + 1 + length holds + 1) the_method.instructions ≡ fails ++ post =
-        behind the_method.instructions (I.Skip (length fails) ∷ []) (fails ++ post)
+        rest_after the_method.instructions (I.Skip (length fails) ∷ []) (fails ++ post)
         (at + 1 + length holds) jump in
         let size : length (if_code cond holds fails) ≡ length holds + (length fails + 1) + 1 =
         omega (arith, length-append holds (I.Skip (length fails) ∷ fails)) in
@@ -481,17 +499,22 @@ module _ (p : Program) (box number : ℕ) (q : Proc Ref) (s : Scope) (text : Tex
   module _ (cond : Expr Ref) (turn : List Instruction) (body : Safe turn) (at most : ℕ)
       (post : List Instruction) (h : drop at the_method.instructions ≡ while_code cond turn ++ post)
       (exit : SafeAt (at + length (while_code cond turn)) most) where
+    -- where the condition of the loop stands
     abbrev test_at : ℕ
     test_at = at + 1 + length turn
 
+    -- where its turn stands
     turn_there : drop (at + 1) the_method.instructions ≡ turn ++ I.Again cond (length turn) ∷ post
-    turn_there = behind the_method.instructions (I.Skip (length turn) ∷ [])
+    turn_there = rest_after the_method.instructions (I.Skip (length turn) ∷ [])
         (turn ++ I.Again cond (length turn) ∷ post) at
         (h ∙ ap (λ is. I.Skip (length turn) ∷ is) (append_assoc turn (I.Again cond (length turn) ∷ []) post))
 
+    -- what stands there
     test_there : drop test_at the_method.instructions ≡ I.Again cond (length turn) ∷ post
-    test_there = behind the_method.instructions turn (I.Again cond (length turn) ∷ post) (at + 1) turn_there
+    test_there = rest_after the_method.instructions turn (I.Again cond (length turn) ∷ post) (at + 1)
+        turn_there
 
+    -- how long the loop is
     size : at + length (while_code cond turn) ≡ test_at + 1
     size = omega (arith, length-append turn (I.Again cond (length turn) ∷ []))
 
@@ -529,6 +552,7 @@ module _ (p : Program) (box number : ℕ) (q : Proc Ref) (s : Scope) (text : Tex
             ∙ ap (λ k. the_run k left vars slots) back))
             ((turns left refl).by left vars slots (le_refl left) fv fs)
 
+    -- the condition is safe with any budget
     test_safe : (b : ℕ) → b ≤ most → SafeAt test_at b
     test_safe zero le = record {
       by = λ budget vars slots k fv fs. tested budget vars slots (omega (arith, k, le)) fv fs
@@ -549,6 +573,7 @@ module _ (p : Program) (box number : ℕ) (q : Proc Ref) (s : Scope) (text : Tex
             narrower left l safe = record
                 { by = λ budget vars slots k fv fs. safe.by budget vars slots (omega (arith, k, l)) fv fs }
 
+    -- the loop is safe
     loop_safe : SafeAt at most × Returns (while_code cond turn) at most
     loop_safe =
         let test = test_safe most (le_refl most) in
@@ -566,6 +591,7 @@ module _ (p : Program) (box number : ℕ) (q : Proc Ref) (s : Scope) (text : Tex
               (returns_append turn (I.Again cond (length turn) ∷ []) (at + 1) most inside.1 tt),
         )
 
+  -- a loop is safe where its turn is
   pub while_safe : (cond : Expr Ref) (turn : List Instruction) → Safe turn → Safe (while_code cond turn)
   while_safe cond turn body = record
       { by = λ at most post h exit. loop_safe cond turn body at most post h exit }

@@ -44,11 +44,12 @@ use Rattle.method_code.specs.Steps.{acts, Stepped, leaves, runs, result_in, chos
 use Rattle.method_code.specs.Steps.{called_early, entered, from_place, step, step_in}
 use Rattle.method_code.specs.Frames as Fr
 use Rattle.method_code.specs.Frames.{HasVars, HasSlots, IsFrame, IsCall, FitsStep, IsPlace}
-use Rattle.method_code.proofs.Going.{behind, runs_stop}
+use Rattle.method_code.proofs.Going.{rest_after, runs_stop}
 use Rattle.method_code.proofs.Simulation.{and_left, and_right}
 use Rattle.method_code.proofs.Statements.{each, each_each, code-layer, fits-layer}
 use Rattle.method_code.proofs.Places.{Stands, stands, coded, scope, keeps_procedure, calls_below}
 use Rattle.method_code.proofs.KindLists.{have_kinds, to_kinds, of_kinds, number_fits}
+use Rattle.method_code.proofs.TypingLaws.{KindLaws}
 use Rattle.method_code.proofs.SafeCode.{none_some, some_same, is_of_some, ArgsTyped, args_typed, Text}
 use Rattle.method_code.proofs.SafeCode.{SafeAt, SafeTaking, Returns, returns_append, Safe, set_safe}
 use Rattle.method_code.proofs.SafeCode.{none_safe, then_safe, all_safe, take_safe, GoodCall, waits_frame}
@@ -59,9 +60,11 @@ module _ (p : Program) (box number : ℕ) (q : Proc Ref) (s : Scope) (text : Tex
     GoodCall p box number q s text is_total bind call)
     (early : (bind : Option Ref) (call : Call Ref) → IsTrue (call_fits s is_partial bind call) →
     GoodCall p box number q s text is_partial bind call) where
+  -- the code of a statement that fits is safe
   SafeSo : Statement Ref → Type 0
   SafeSo t = IsTrue (statement_fits s t) → Safe p box number q s text (code_of t)
 
+  -- a statement, by the statements inside it
   layer_safe : (d : Statement-F Ref (Statement Ref)) →
       (IsTrue (K.statement_step s (map-Statement Ref (Statement Ref) Bool (statement_fits s) d)) →
       Safe p box number q s text
@@ -72,6 +75,7 @@ module _ (p : Program) (box number : ℕ) (q : Proc Ref) (s : Scope) (text : Tex
       (h (subst (λ b. IsTrue b) (fits-layer s d) fit))
 
   module _ (X : Type 0) (f : X → Statement Ref) (each_safe : (x : X) → SafeSo (f x)) where
+    -- the statements inside a statement
     inner : (xs : List X) → IsTrue (all_true (each (statement_fits s) (each f xs))) →
         Safe p box number q s text (joined (each code_of (each f xs)))
     unfolding SafeSo
@@ -79,11 +83,13 @@ module _ (p : Program) (box number : ℕ) (q : Proc Ref) (s : Scope) (text : Tex
         (all_safe p box number q s text (λ x. code_of (f x)) (λ x. statement_fits s (f x)) each_safe xs
         (subst (λ l. IsTrue (all_true l)) (each_each f (statement_fits s) xs) fit))
 
+    -- an assignment that fits is safe
     assign_safe : (name : Ref) (e : _) (o : Option Kind) → kind_set s name ≡ o → IsTrue (K.assigns s o e) →
         Safe p box number q s text (I.Set name e ∷ [])
     assign_safe name e None is fit = absurd (true≢false (sym fit))
     assign_safe name e (Some k) is fit = set_safe p box number q s text name e k is fit
 
+    -- one layer of a statement
     layer : (y : Statement-F Ref X) → SafeSo (roll-Statement Ref (map-Statement Ref X (Statement Ref) f y))
     layer (S.Let name kind e) = layer_safe (S.Let name kind e) (λ fit.
         set_safe p box number q s text name e kind
@@ -103,11 +109,13 @@ module _ (p : Program) (box number : ℕ) (q : Proc Ref) (s : Scope) (text : Tex
         while_safe p box number q s text cond (joined (each code_of (each f turn)))
         (inner turn (and_right (is_of KV.Bool (kind_in s cond)) _ fit)))
 
+  -- the code of each statement that fits is safe
   statement_safe : (t : Statement Ref) → IsTrue (statement_fits s t) → Safe p box number q s text (code_of t)
   unfolding SafeSo
   statement_safe = ind-Statement Ref SafeSo
       (λ x y is. subst (λ z. SafeSo (roll-Statement Ref z)) is (layer _ (λ e. e.0) (λ e. e.1) y))
 
+  -- the code of a body that fits is safe
   body_safe : (ts : List (Statement Ref)) → IsTrue (body_fits s ts) →
       Safe p box number q s text (flat_map code_of ts)
   body_safe [] fit = none_safe p box number q s text
@@ -115,6 +123,7 @@ module _ (p : Program) (box number : ℕ) (q : Proc Ref) (s : Scope) (text : Tex
       (statement_safe t (and_left (statement_fits s t) _ fit))
       (body_safe ts (and_right (statement_fits s t) _ fit))
 
+  -- a step from an instruction of the procedure is safe
   abbrev Here : ℕ → ℕ → Type 0
   Here at most = SafeAt p box number q s text at most
 
@@ -139,6 +148,7 @@ module _ (p : Program) (box number : ℕ) (q : Proc Ref) (s : Scope) (text : Tex
         (record { vars = box_vars p box number q s text vars fv; end = returned_fits slots fs });
   }
 
+  -- a rejection is safe
   reject_safe : (at most : ℕ) (rest : List Instruction) →
       drop at (method_code q).instructions ≡ I.Reject ∷ rest → Here at most
   reject_safe at most rest h = record {
@@ -149,11 +159,13 @@ module _ (p : Program) (box number : ℕ) (q : Proc Ref) (s : Scope) (text : Tex
         (record { vars = box_vars p box number q s text vars fv; end = tt });
   }
 
+  -- the end of an alternative is safe
   last_safe : (b : Bool) (at most : ℕ) (rest : List Instruction) →
       drop at (method_code q).instructions ≡ (if b then I.Return else I.Reject) ∷ rest → Here at most
   last_safe true at most rest h = return_safe at most rest h
   last_safe false at most rest h = reject_safe at most rest h
 
+  -- it has no return places
   last_returns : (b : Bool) (at most : ℕ) → Returns p box number q s text
       ((if b then I.Return else I.Reject) ∷ []) at most
   last_returns true at most = tt
@@ -165,6 +177,7 @@ module _ (p : Program) (box number : ℕ) (q : Proc Ref) (s : Scope) (text : Tex
   Begins at most (Some pre) = (post : List Instruction)
       × (drop at (method_code q).instructions ≡ I.Take pre.bind ∷ post)
 
+  -- the body of an alternative with its end is safe
   tail_safe : (alt : Alternative Ref) (at most : ℕ) (post : List Instruction) →
       IsTrue (body_fits s alt.body) → drop at (method_code q).instructions
       ≡ (flat_map code_of alt.body ++ last_code alt) ++ post →
@@ -174,13 +187,14 @@ module _ (p : Program) (box number : ℕ) (q : Proc Ref) (s : Scope) (text : Tex
       h ∙ append_assoc (flat_map code_of alt.body) (last_code alt) post in
       let b = (body_safe alt.body fit).by at most (last_code alt ++ post) h'
       (last_safe alt.positive (at + length (flat_map code_of alt.body)) most post
-      (behind (method_code q).instructions (flat_map code_of alt.body) (last_code alt ++ post) at h'))
+      (rest_after (method_code q).instructions (flat_map code_of alt.body) (last_code alt ++ post) at h'))
       in (
         b.0,
         returns_append p box number q s text (flat_map code_of alt.body) (last_code alt) at most b.1
             (last_returns alt.positive (at + length (flat_map code_of alt.body)) most),
       )
 
+  -- an alternative is safe, and begins safely
   alternative_safe : (alt : Alternative Ref) (pre : Option (Pre Ref)) (at most : ℕ)
       (post : List Instruction) → IsTrue (pre_fits s pre) → IsTrue (body_fits s alt.body) →
       drop at (method_code q).instructions ≡ (take_code pre ++ (flat_map code_of alt.body ++ last_code alt))
@@ -191,7 +205,7 @@ module _ (p : Program) (box number : ℕ) (q : Proc Ref) (s : Scope) (text : Tex
   alternative_safe alt (Some pre) at most post pfit fit h =
       let rest : List Instruction = (flat_map code_of alt.body ++ last_code alt) ++ post in
       let after = tail_safe alt (at + 1) most post fit
-      (behind (method_code q).instructions (I.Take pre.bind ∷ []) rest at h) in
+      (rest_after (method_code q).instructions (I.Take pre.bind ∷ []) rest at h) in
       let e : at + 1 ≡ suc at = omega arith in (
         (rest, h),
         (
@@ -212,10 +226,12 @@ module _ (p : Program) (box number : ℕ) (q : Proc Ref) (s : Scope) (text : Tex
     fitting : IsTrue (pre_fits s pre)
     begins : Begins h.start most pre
 
+  -- each alternative begins safely
   abbrev EachHead : ℕ → List Head → Type 0
   EachHead most [] = Unit {0}
   EachHead most (h ∷ hs) = HeadSafe most h × EachHead most hs
 
+  -- alternatives that fit are safe
   alternatives_safe : (alts : List (Alternative Ref)) (at most : ℕ) → IsTrue (alternatives_fit s alts) →
       drop at (method_code q).instructions ≡ flat_map alternative_code alts →
       EachHead most (heads at alts) × Returns p box number q s text (flat_map alternative_code alts) at most
@@ -228,18 +244,20 @@ module _ (p : Program) (box number : ℕ) (q : Proc Ref) (s : Scope) (text : Tex
       (and_right (pre_fits s alt.pre) _ mine) h in
       let rest = alternatives_safe alts (at + length (alternative_code alt)) most
       (and_right (alternative_fits s alt) _ fit)
-      (behind (method_code q).instructions (alternative_code alt) (flat_map alternative_code alts) at h)
+      (rest_after (method_code q).instructions (alternative_code alt) (flat_map alternative_code alts) at h)
       in (
         (record { pre = alt.pre; is = refl; fitting = pfit; begins = one.0 }, rest.0),
         returns_append p box number q s text (alternative_code alt) (flat_map alternative_code alts) at most
             one.1 rest.1,
       )
 
+  -- what is chosen begins safely
   abbrev ChosenSafe : ℕ → Result (Option Head) Trap → Type 0
   ChosenSafe most (Err t) = Unit {0}
   ChosenSafe most (Ok None) = Unit {0}
   ChosenSafe most (Ok (Some h)) = HeadSafe most h
 
+  -- the first alternative that holds begins safely
   head_safe : (most : ℕ) (hs : List Head) (vars slots : List Value) → EachHead most hs →
       ChosenSafe most (chosen_head hs vars slots)
   head_safe most [] vars slots e = tt
@@ -255,11 +273,13 @@ module _ (p : Program) (box number : ℕ) (q : Proc Ref) (s : Scope) (text : Tex
       by (Err t) o = tt
       by (Ok v) o = either (bool_of v) o
 
+  -- a procedure that may reject is an early one
   partial_form : (f : Form Ref) → IsTrue (is_partial f) → is_total f ≡ not true
   partial_form (F.Total ts) h = absurd (true≢false (sym h))
   partial_form (F.Partial alts) h = refl
   partial_form (F.Action alts) h = refl
 
+  -- a choice is safe
   chosen_safe : is_total q.form ≡ false → (budget : ℕ) (r : Result (Option Head) Trap)
       (vars slots : List Value) → ChosenSafe budget r → IsTrue (have_kinds s.vars vars) →
       IsTrue (have_kinds s.slots slots) →
@@ -302,7 +322,8 @@ module _ (p : Program) (box number : ℕ) (q : Proc Ref) (s : Scope) (text : Tex
       by (Some pre) fit b =
           let good = early pre.bind pre.call fit in
           called_safe pre good b.0 b.1 (arguments pre.call.args vars slots)
-          (args_typed s vars slots fv fs pre.call.args (param_kinds good.procedure.params) good.args)
+          (args_typed text.laws s vars slots fv fs pre.call.args (param_kinds good.procedure.params)
+          good.args)
 
   -- all of a procedure: a step from its entry, from its rejection place and from its returns
   record FormSafe (f : Form Ref) (most : ℕ) : Type 0 where
@@ -312,12 +333,13 @@ module _ (p : Program) (box number : ℕ) (q : Proc Ref) (s : Scope) (text : Tex
     rejects : is_total f ≡ false → Here 0 most
     returns : Returns p box number q s text (form_code f) 0 most
 
+  -- a form that fits is safe
   form_safe : (f : Form Ref) → q.form ≡ f → IsTrue (form_fits s f) → (most : ℕ) → FormSafe f most
   form_safe (F.Total ts) is fit most =
       let h : drop 0 (method_code q).instructions ≡ flat_map code_of ts ++ I.Return ∷ [] = ap form_code is in
       let b = (body_safe ts fit).by 0 most (I.Return ∷ []) h
       (return_safe (0 + length (flat_map code_of ts)) most []
-      (behind (method_code q).instructions (flat_map code_of ts) (I.Return ∷ []) 0 h)) in
+      (rest_after (method_code q).instructions (flat_map code_of ts) (I.Return ∷ []) 0 h)) in
       record {
         enters = λ vars slots fv fs. b.0.by most vars slots (le_refl most) fv fs;
         rejects = λ e. absurd (true≢false e);
@@ -417,13 +439,16 @@ module _ (p : Program) (box number : ℕ) (q : Proc Ref) (s : Scope) (text : Tex
           subst goal n ((returns_get (form_code q.form) 0 budget at t.0 f.returns t.1).1.by budget vars
           slots (le_refl budget) fv (right fs))
 
-module _ (p : Program) (keeps : Keeps p) (box number : ℕ) (q : Proc Ref) (at : Stands p box number q)
-    (there : procedure_of p box number ≡ Some q) where
+module _ (laws : KindLaws) (p : Program) (keeps : Keeps p) (box number : ℕ) (q : Proc Ref)
+    (at : Stands p box number q) (there : procedure_of p box number ≡ Some q) where
+  -- what the procedure sees
   abbrev its_scope : Scope
   its_scope = scope p keeps box number q at
 
+  -- its text
   its_text : Text p box number q its_scope
   its_text = record {
+    laws = laws;
     there = there;
     vars = sym (ap (λ (o : Option BoxInfo). vars_in
         (option_and_then (λ (b : BoxInfo). slice_get p.cats b.cat) o)) at.box_there
@@ -431,6 +456,7 @@ module _ (p : Program) (keeps : Keeps p) (box number : ℕ) (q : Proc Ref) (at :
     slots = refl;
   }
 
+  -- a call that fits is good
   good_call : (form : Form Ref → Bool) (bind : Option Ref) (call : Call Ref) →
       IsTrue (call_fits its_scope form bind call) →
       GoodCall p box number q its_scope its_text form bind call
@@ -452,6 +478,7 @@ module _ (p : Program) (keeps : Keeps p) (box number : ℕ) (q : Proc Ref) (at :
             result = and_right (arguments_fit its_scope call.args (param_kinds r.params)) _ rest;
           }
 
+  -- a step from a place of the procedure fits
   procedure_safe : (place : ℕ) (slots : List Value) (budget : ℕ) (vars : List Value) →
       IsPlace q place slots → HasVars p box vars →
       FitsStep p box number (from_place (method_code q) (number_of p box number) budget place vars slots)
@@ -461,10 +488,10 @@ module _ (p : Program) (keeps : Keeps p) (box number : ℕ) (q : Proc Ref) (at :
       (of_kinds its_scope.vars vars (subst (λ ks. AreOf vars ks) (sym its_text.vars) fv))
 
 -- a step from a frame of the code, on variables of its box
-pub step_fits : (p : Program) → Keeps p → (box : ℕ) (frame : Frame) (budget : ℕ) (vars : List Value)
-    (f : IsFrame p box frame) → HasVars p box vars →
+pub step_fits : KindLaws → (p : Program) → Keeps p → (box : ℕ) (frame : Frame) (budget : ℕ)
+    (vars : List Value) (f : IsFrame p box frame) → HasVars p box vars →
     FitsStep p box f.number (step (compiled p) frame budget vars)
-step_fits p keeps box frame budget vars f fv =
+step_fits laws p keeps box frame budget vars f fv =
     let q = f.procedure in
     subst (λ (x : Stepped). FitsStep p box f.number x)
     (sym (ap (λ n. step (compiled p) (record { method = n; place = frame.place; slots = frame.slots })
@@ -472,5 +499,5 @@ step_fits p keeps box frame budget vars f fv =
     ∙ ap (λ (o : Option Method). step_in o
     (record { method = number_of p box f.number; place = frame.place; slots = frame.slots }) budget
     vars) (coded p box f.number q f.there)))
-    (procedure_safe p keeps box f.number q (stands p box f.number q f.there) f.there frame.place frame.slots
-    budget vars f.place fv)
+    (procedure_safe laws p keeps box f.number q (stands p box f.number q f.there) f.there frame.place
+    frame.slots budget vars f.place fv)

@@ -27,7 +27,7 @@ use Rattle.method_code.specs.Codes.{joined, if_code, while_code}
 use Rattle.method_code.specs.Steps.{acts, acted, put, put_value, decided, last_number, all_but_last}
 use Rattle.method_code.specs.Chains.{with_vars}
 use Rattle.method_code.proofs.States.{with_same, with_twice, vars_with_var}
-use Rattle.method_code.proofs.Going.{behind, after, go, go_on, go_trap, runs_stop}
+use Rattle.method_code.proofs.Going.{rest_after, after, go, go_on, go_trap, runs_stop}
 use Rattle.method_code.proofs.Following.{Going, over, FollowsRan, leads_as, follows_as, follows_paid}
 use Rattle.method_code.proofs.Following.{in_order}
 
@@ -38,6 +38,7 @@ last_is slots z =
     omega (arith, length-append slots (V.Int z ∷ [])) in
     ap int_of (get_or_push slots (V.Int z) (V.Int (pos 0)) (length (slots ++ V.Int z ∷ []) - 1) n)
 
+-- the slots before the last one
 pub before_last : (slots : List Value) (v : Value) → all_but_last (slots ++ v ∷ []) ≡ slots
 before_last slots v =
     let n : length (slots ++ v ∷ []) - 1 ≡ length slots = omega (arith, length-append slots (v ∷ [])) in
@@ -47,10 +48,12 @@ before_last slots v =
     front [] v = refl
     front (s ∷ slots) v = ap (λ vs. s ∷ vs) (front slots v)
 
+-- the first of two tests
 pub and_left : (a b : Bool) → IsTrue (a && b) → IsTrue a
 and_left true b h = refl
 and_left false b h = h
 
+-- the second of two tests
 pub and_right : (a b : Bool) → IsTrue (a && b) → IsTrue b
 and_right true b h = h
 and_right false b h = absurd (true≢false (sym h))
@@ -118,6 +121,7 @@ module _ (p : Program) (box : ℕ) (m : Method) (method : ℕ) (ws : List Waitin
         FollowsRan (from at σ slots budget) (from (at + length code)) budget (2 * budget)
         (meaning σ slots budget)
 
+  -- the code of an assignment simulates it
   pub set_simulates : (name : Ref) (e : Expr Ref) →
       Simulates (I.Set name e ∷ [])
       (λ σ slots budget. evaluated_into box name (value e (vars_of σ box) slots) σ slots budget)
@@ -126,13 +130,14 @@ module _ (p : Program) (box : ℕ) (m : Method) (method : ℕ) (ws : List Waitin
         (value e (vars_of σ box) slots) h refl;
   }
 
+  -- no code simulates nothing
   pub none_simulates : Simulates [] stay
   none_simulates = record {
     by = λ at post σ slots budget h. leads_as _ _ budget
         (λ n. let e : at ≡ at + 0 = omega arith in ap (λ k. from k σ slots budget n) e);
   }
 
-  -- code that stands behind other code
+  -- code that stands after other code
   pub then_simulates : (front back : List Instruction) (first second : Meaning) → Simulates front first →
       Simulates back second →
       Simulates (front ++ back)
@@ -148,7 +153,7 @@ module _ (p : Program) (box : ℕ) (m : Method) (method : ℕ) (ws : List Waitin
         (in_order _ (from (at + length front)) (from (at + length front + length back)) budget (2 * budget)
         ran.state ran.slots ran.budget ran.finish second (a.by at (back ++ post) σ slots budget h')
         (λ τ ss left less. b.by (at + length front) post τ ss left
-        (behind m.instructions front (back ++ post) at h')));
+        (rest_after m.instructions front (back ++ post) at h')));
   }
 
   -- code after code, of parts that pass a test
@@ -180,15 +185,15 @@ module _ (p : Program) (box : ℕ) (m : Method) (method : ℕ) (ws : List Waitin
           (append_assoc holds (I.Skip (length fails) ∷ fails) post)
 
       rest : drop (at + 1) m.instructions ≡ holds ++ inner
-      rest = behind m.instructions (I.SkipUnless cond (length holds + 1) ∷ []) (holds ++ inner) at h'
+      rest = rest_after m.instructions (I.SkipUnless cond (length holds + 1) ∷ []) (holds ++ inner) at h'
 
       jump : drop (at + 1 + length holds) m.instructions ≡ inner
-      jump = behind m.instructions holds inner (at + 1) rest
+      jump = rest_after m.instructions holds inner (at + 1) rest
 
       other : drop (at + 1 + (length holds + 1)) m.instructions ≡ fails ++ post
       other = let e : at + 1 + length holds + 1 ≡ at + 1 + (length holds + 1) = omega arith in
           ap (λ k. drop k m.instructions) (sym e)
-          ∙ behind m.instructions (I.Skip (length fails) ∷ []) (fails ++ post) (at + 1 + length holds)
+          ∙ rest_after m.instructions (I.Skip (length fails) ∷ []) (fails ++ post) (at + 1 + length holds)
           jump
 
       size : length (if_code cond holds fails) ≡ length holds + (length fails + 1) + 1
@@ -250,6 +255,7 @@ module _ (p : Program) (box : ℕ) (m : Method) (method : ℕ) (ws : List Waitin
           }
       choose (Ok v) is = take_one v (bool_of v) is refl
 
+  -- the code of a choice simulates it
   pub if_simulates : (cond : Expr Ref) (holds fails : List Instruction) (mh mf : Meaning) →
       Simulates holds mh → Simulates fails mf →
       Simulates (if_code cond holds fails)
@@ -266,13 +272,15 @@ module _ (p : Program) (box : ℕ) (m : Method) (method : ℕ) (ws : List Waitin
     abbrev test_at : ℕ
     test_at = at + 1 + length turn
 
+    -- where the turn of a loop stands
     turn_there : drop (at + 1) m.instructions ≡ turn ++ I.Again cond (length turn) ∷ post
-    turn_there = behind m.instructions (I.Skip (length turn) ∷ [])
+    turn_there = rest_after m.instructions (I.Skip (length turn) ∷ [])
         (turn ++ I.Again cond (length turn) ∷ post) at
         (h ∙ ap (λ is. I.Skip (length turn) ∷ is) (append_assoc turn (I.Again cond (length turn) ∷ []) post))
 
+    -- where its condition stands
     test_there : drop test_at m.instructions ≡ I.Again cond (length turn) ∷ post
-    test_there = behind m.instructions turn (I.Again cond (length turn) ∷ post) (at + 1) turn_there
+    test_there = rest_after m.instructions turn (I.Again cond (length turn) ∷ post) (at + 1) turn_there
 
     -- the test, where one more turn is wanted
     IsTaken : State → List Value → Type 0
@@ -380,6 +388,7 @@ module _ (p : Program) (box : ℕ) (m : Method) (method : ℕ) (ws : List Waitin
         (λ n. ap (λ k. from k ran.state ran.slots ran.budget n) size)
         (loops budget σ slots budget (omega arith))
 
+  -- the code of a loop simulates it
   pub while_simulates : (cond : Expr Ref) (turn : List Instruction) (mt : Meaning) → Simulates turn mt →
       Simulates (while_code cond turn) (λ σ slots budget. looped box budget cond mt σ slots budget)
   while_simulates cond turn mt body = record

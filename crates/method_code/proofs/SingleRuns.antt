@@ -51,7 +51,7 @@ use Rattle.method_code.specs.Singles.{is_single, outcome_by, result_by, IsRun, i
 use Rattle.method_code.specs.Singles.{is_plainly_rejected}
 use Rattle.method_code.specs.Kinds.{rejects_plainly}
 use Rattle.method_code.proofs.States.{with_same, with_twice, vars_with_var}
-use Rattle.method_code.proofs.Going.{behind, runs_on, runs_stop}
+use Rattle.method_code.proofs.Going.{rest_after, runs_on, runs_stop}
 use Rattle.method_code.proofs.Simulation.{and_left, and_right}
 use Rattle.method_code.proofs.Statements.{each, each_each, code-layer, meaning-layer}
 use Rattle.method_code.proofs.Procedures.{result_same}
@@ -70,12 +70,14 @@ module _ (box : ℕ) (m : Method) (method : ℕ) where
     free : left ≡ budget
     only : (vs : List Value) → with_vars σ box vs ≡ with_vars τ box vs
 
+  -- code does what a body does without a call
   abbrev Straight : ℕ → ℕ → State → List Value → ℕ → State → List Value → ℕ → Finish → Type 0
   Straight at end σ slots budget τ ss left Done = Reaches at σ slots budget (here end τ ss budget) τ left
   Straight at end σ slots budget τ ss left (Trapped t) =
       Reaches at σ slots budget (leaves method budget (vars_of τ box) (E.Trapped t)) τ left
   Straight at end σ slots budget τ ss left Spent = ⊥
 
+  -- code does what a body ran to
   abbrev StraightRan : ℕ → ℕ → State → List Value → ℕ → Ran → Type 0
   StraightRan at end σ slots budget ran = Straight at end σ slots budget ran.state ran.slots ran.budget
       ran.finish
@@ -91,6 +93,7 @@ module _ (box : ℕ) (m : Method) (method : ℕ) where
       record { same = a.same ∙ b.same; free = b.free; only = λ vs. a.only vs ∙ b.only vs }
   comes_to at mid end σ τ slots ss budget middle ω us left Spent a b = absurd b
 
+  -- two parts in their order
   in_order : (at mid end : ℕ) (σ : State) (slots : List Value) (budget : ℕ) (τ : State) (ss : List Value)
       (middle : ℕ) (f : Finish) (next : Meaning) →
       Straight at mid σ slots budget τ ss middle f →
@@ -124,6 +127,7 @@ module _ (box : ℕ) (m : Method) (method : ℕ) where
     only = only;
   }
 
+  -- an instruction that traps
   traps : (at : ℕ) (i : Instruction) (rest : List Instruction) (σ : State) (slots : List Value) (budget : ℕ)
       (t : Trap) → drop at m.instructions ≡ i ∷ rest →
       acted i (vars_of σ box) slots ≡ acts (vars_of σ box) slots (M.Trap t) →
@@ -141,6 +145,7 @@ module _ (box : ℕ) (m : Method) (method : ℕ) where
         drop at m.instructions ≡ code ++ post → StraightRan at (at + length code) σ slots budget
         (meaning σ slots budget)
 
+  -- an instruction that puts a value
   put_does : (at : ℕ) (i : Instruction) (rest : List Instruction) (σ : State) (slots : List Value)
       (budget : ℕ) (name : Ref) (v : Value) → drop at m.instructions ≡ i ∷ rest →
       acted i (vars_of σ box) slots ≡ put name v (vars_of σ box) slots →
@@ -159,6 +164,7 @@ module _ (box : ℕ) (m : Method) (method : ℕ) where
   put_does at i rest σ slots budget (R.Cat k) v h does =
       moves at 0 i rest σ σ slots slots budget (at + 1) h does zero-le (omega arith) (λ vs. refl)
 
+  -- the code of an assignment does it
   set_does : (name : Ref) (e : Expr Ref) → Does (I.Set name e ∷ [])
       (λ σ slots budget. evaluated_into box name (value e (vars_of σ box) slots) σ slots budget)
   set_does name e = record
@@ -173,6 +179,7 @@ module _ (box : ℕ) (m : Method) (method : ℕ) where
       by at post σ slots budget h (Ok v) is = put_does at (I.Set name e) post σ slots budget name v h
           (ap (λ ev. put_value name ev (vars_of σ box) slots) is)
 
+  -- no code does nothing
   none_does : Does [] stay
   none_does = record {
     by = λ at post σ slots budget h. record {
@@ -183,6 +190,7 @@ module _ (box : ℕ) (m : Method) (method : ℕ) where
     };
   }
 
+  -- two parts do what both mean
   then_does : (front back : List Instruction) (first second : Meaning) → Does front first →
       Does back second → Does (front ++ back)
       (λ σ slots budget. resumed (first σ slots budget).finish (first σ slots budget) second)
@@ -198,9 +206,10 @@ module _ (box : ℕ) (m : Method) (method : ℕ) where
         (λ same. subst (λ left. StraightRan (at + length front) (at + length front + length back) ran.state
         ran.slots budget (second ran.state ran.slots left)) (sym same)
         (b.by (at + length front) post ran.state ran.slots budget
-        (behind m.instructions front (back ++ post) at h'))));
+        (rest_after m.instructions front (back ++ post) at h'))));
   }
 
+  -- all parts do what each means
   all_do : {X : Type 0} (code : X → List Instruction) (meaning : X → Meaning) (test : X → Bool) →
       ((x : X) → IsTrue (test x) → Does (code x) (meaning x)) →
       (xs : List X) → IsTrue (all_true (map test xs)) →
@@ -210,6 +219,7 @@ module _ (box : ℕ) (m : Method) (method : ℕ) where
       then_does (code x) (joined (map code xs)) (meaning x) (in_turn (map meaning xs))
       (each x (and_left (test x) _ ok)) (all_do code meaning test each xs (and_right (test x) _ ok))
 
+  -- the code of a choice does it
   if_does : (cond : Expr Ref) (holds fails : List Instruction) (mh mf : Meaning) → Does holds mh →
       Does fails mf → Does (if_code cond holds fails)
       (λ σ slots budget. branched (value cond (vars_of σ box) slots) mh mf σ slots budget)
@@ -234,10 +244,10 @@ module _ (box : ℕ) (m : Method) (method : ℕ) where
           h ∙ ap (λ is. I.SkipUnless cond (length holds + 1) ∷ is)
           (append_assoc holds (I.Skip (length fails) ∷ fails) post) in
           let rest : drop (at + 1) m.instructions ≡ holds ++ inner post =
-          behind m.instructions (I.SkipUnless cond (length holds + 1) ∷ []) (holds ++ inner post) at h'
+          rest_after m.instructions (I.SkipUnless cond (length holds + 1) ∷ []) (holds ++ inner post) at h'
           in
           let jump : drop (at + 1 + length holds) m.instructions ≡ inner post =
-          behind m.instructions holds (inner post) (at + 1) rest in
+          rest_after m.instructions holds (inner post) (at + 1) rest in
           let does : acted (I.SkipUnless cond (length holds + 1)) (vars_of σ box) slots
           ≡ acts (vars_of σ box) slots (if t then M.On 0 else M.On (length holds + 1)) =
           ap (λ ev. acts (vars_of σ box) slots (decided ev (M.On 0) (M.On (length holds + 1)))) is
@@ -271,7 +281,7 @@ module _ (box : ℕ) (m : Method) (method : ℕ) where
               let e : at + 1 + length holds + 1 ≡ at + 1 + (length holds + 1) = omega arith in
               let other : drop (at + 1 + (length holds + 1)) m.instructions ≡ fails ++ post =
               ap (λ k. drop k m.instructions) (sym e)
-              ∙ behind m.instructions (I.Skip (length fails) ∷ []) (fails ++ post)
+              ∙ rest_after m.instructions (I.Skip (length fails) ∷ []) (fails ++ post)
               (at + 1 + length holds) jump in
               let end : at + 1 + (length holds + 1) + length fails
               ≡ at + length (if_code cond holds fails) = omega (arith, size) in
@@ -294,6 +304,7 @@ module _ (box : ℕ) (m : Method) (method : ℕ) where
           (λ ev. acts (vars_of σ box) slots (decided ev (M.On 0) (M.On (length holds + 1)))) is)
       decide at post σ slots budget h (Ok v) is = by_test at post σ slots budget h v (bool_of v) is refl
 
+-- the test of a single statement, by those inside it
 single-layer : (d : Statement-F Ref (Statement Ref)) →
     is_single_statement (roll-Statement Ref d) ≡ single_step
     (map-Statement Ref (Statement Ref) Bool is_single_statement d)
@@ -301,9 +312,11 @@ unfolding is_single_statement
 single-layer d = fold-roll-Statement Ref Bool single_step d
 
 module _ (p : Program) (callee : Callee) (box : ℕ) (m : Method) (method : ℕ) where
+  -- the code of a single statement does it
   DoesSo : Statement Ref → Type 0
   DoesSo t = IsTrue (is_single_statement t) → Does box m method (code_of t) (statement p callee box t)
 
+  -- a statement, by the statements inside it
   layer_does : (d : Statement-F Ref (Statement Ref)) →
       (IsTrue (single_step (map-Statement Ref (Statement Ref) Bool is_single_statement d)) →
       Does box m method (code_step (map-Statement Ref (Statement Ref) (List Instruction) code_of d))
@@ -316,6 +329,7 @@ module _ (p : Program) (callee : Callee) (box : ℕ) (m : Method) (method : ℕ)
       (h (subst (λ b. IsTrue b) (single-layer d) single))
 
   module _ (X : Type 0) (f : X → Statement Ref) (each_does : (x : X) → DoesSo (f x)) where
+    -- the statements inside a statement
     inner : (xs : List X) → IsTrue (all_true (each is_single_statement (each f xs))) →
         Does box m method (joined (each code_of (each f xs)))
         (in_turn (each (statement p callee box) (each f xs)))
@@ -327,6 +341,7 @@ module _ (p : Program) (callee : Callee) (box : ℕ) (m : Method) (method : ℕ)
         (λ x. is_single_statement (f x)) each_does xs
         (subst (λ l. IsTrue (all_true l)) (each_each f is_single_statement xs) single))
 
+    -- one layer of a statement
     layer : (y : Statement-F Ref X) → DoesSo (roll-Statement Ref (map-Statement Ref X (Statement Ref) f y))
     layer (S.Let name kind e) = layer_does (S.Let name kind e) (λ single. set_does box m method name e)
     layer (S.Assign name e) = layer_does (S.Assign name e) (λ single. set_does box m method name e)
@@ -341,12 +356,14 @@ module _ (p : Program) (callee : Callee) (box : ℕ) (m : Method) (method : ℕ)
     layer (S.While cond turn) = layer_does (S.While cond (each f turn))
         (λ single. absurd (true≢false (sym single)))
 
+  -- the code of each single statement does it
   statement_does : (t : Statement Ref) → IsTrue (is_single_statement t) →
       Does box m method (code_of t) (statement p callee box t)
   unfolding DoesSo
   statement_does = ind-Statement Ref DoesSo
       (λ x y is. subst (λ z. DoesSo (roll-Statement Ref z)) is (layer _ (λ e. e.0) (λ e. e.1) y))
 
+  -- the code of a single body does it
   body_does : (ts : List (Statement Ref)) → IsTrue (is_single_body ts) →
       Does box m method (flat_map code_of ts) (body p callee box ts)
   body_does [] single = none_does box m method
@@ -374,7 +391,7 @@ is_run method box σ τ budget left s end outcome found is free only o r =
     }
 
 module _ (p : Program) (callee : Callee) (box : ℕ) (q : Proc Ref) (method : ℕ) where
-  -- a body that stands at a place, and the end of the procedure behind it
+  -- a body that stands at a place, and the end of the procedure after it
   body_runs : (positive : Bool) (at : ℕ) (ts : List (Statement Ref)) (post : List Instruction) →
       IsTrue (is_single_body ts) →
       drop at (method_code q).instructions ≡ flat_map code_of ts
@@ -386,7 +403,7 @@ module _ (p : Program) (callee : Callee) (box : ℕ) (q : Proc Ref) (method : �
   body_runs positive at ts post single h σ slots budget =
       let ran : Ran = body p callee box ts σ slots budget in
       by positive ran.finish
-      (behind (method_code q).instructions (flat_map code_of ts)
+      (rest_after (method_code q).instructions (flat_map code_of ts)
       ((if positive then I.Return else I.Reject) ∷ post) at h)
       ((body_does p callee box (method_code q) method ts single).by at
       ((if positive then I.Return else I.Reject) ∷ post) σ slots budget h)
@@ -420,6 +437,7 @@ module _ (p : Program) (callee : Callee) (box : ℕ) (q : Proc Ref) (method : �
       by true Spent g a = absurd a
       by false Spent g a = absurd a
 
+  -- a chosen alternative is its run
   chosen_runs : (alt : Alternative Ref) (pre : Option (Pre Ref)) (at : ℕ) (post : List Instruction) →
       IsTrue (is_none pre) → IsTrue (is_single_body alt.body) →
       drop at (method_code q).instructions ≡ (take_code pre ++ (flat_map code_of alt.body ++ last_code alt))
@@ -431,6 +449,7 @@ module _ (p : Program) (callee : Callee) (box : ℕ) (q : Proc Ref) (method : �
       (h ∙ append_assoc (flat_map code_of alt.body) (last_code alt) post) σ slots budget
   chosen_runs alt (Some pre) at post none single h σ slots budget = absurd (true≢false (sym none))
 
+  -- a choice is the run of its alternative
   alternatives_run : (alts : List (Alternative Ref)) (at : ℕ) → IsTrue (are_single alts) →
       drop at (method_code q).instructions ≡ flat_map alternative_code alts →
       (σ : State) (slots : List Value) (budget : ℕ) →
@@ -442,7 +461,7 @@ module _ (p : Program) (callee : Callee) (box : ℕ) (q : Proc Ref) (method : �
       judge (value alt.cond (vars_of σ box) slots)
       (alternatives_run alts (at + length (alternative_code alt))
       (and_right (is_none alt.pre && is_single_body alt.body) _ single)
-      (behind (method_code q).instructions (alternative_code alt) (flat_map alternative_code alts) at h)
+      (rest_after (method_code q).instructions (alternative_code alt) (flat_map alternative_code alts) at h)
       σ slots budget)
     where
       one : IsTrue (is_none alt.pre && is_single_body alt.body)
@@ -474,6 +493,7 @@ module _ (p : Program) (callee : Callee) (box : ℕ) (q : Proc Ref) (method : �
           (λ vs. refl) refl refl
       judge (Ok v) o = pick (bool_of v) o
 
+  -- a step from an entry is the run of its form
   form_runs : (f : Form Ref) → q.form ≡ f → IsTrue (is_single f) →
       (σ : State) (slots : List Value) (budget : ℕ) →
       IsRun (T.entered (method_code q) method budget (entry_of f) (vars_of σ box) slots) box σ budget
@@ -498,6 +518,7 @@ step_enters p box number q args budget vars there =
     ∙ ap (λ slots. T.entered (method_code q) (number_of p box number) budget (entry_of q.form) vars slots)
     (sym (append_assoc args (if q.gives then V.Int (pos 0) ∷ [] else []) (form_locals q.form)))
 
+-- a step from an entry is the run of its procedure
 pub single_runs : (p : Program) (depth box number : ℕ) (q : Proc Ref) (args : List Value) (σ : State)
     (budget : ℕ) → procedure_of p box number ≡ Some q → IsTrue (is_single q.form) →
     IsRun (step (compiled p) (entry (compiled p) (number_of p box number) args) budget (vars_of σ box)) box
@@ -548,6 +569,7 @@ alternatives_plain m method at (alt ∷ alts) vars slots budget =
     judge (Err t) o = refl
     judge (Ok v) o = pick (bool_of v) o
 
+-- a form rejects plainly where no precondition holds
 form_plain : (m : Method) (method : ℕ) (f : Form Ref) (vars slots : List Value) (budget : ℕ) →
     rejects_plainly (T.entered m method budget (entry_of f) vars slots).end
     ≡ is_plainly_rejected f vars slots
@@ -555,6 +577,7 @@ form_plain m method (F.Total ts) vars slots budget = (runs_quiet m method budget
 form_plain m method (F.Partial alts) vars slots budget = alternatives_plain m method 1 alts vars slots budget
 form_plain m method (F.Action alts) vars slots budget = alternatives_plain m method 1 alts vars slots budget
 
+-- so does a step from an entry
 pub entry_plain : (p : Program) (box number : ℕ) (q : Proc Ref) (args : List Value) (vars : List Value)
     (budget : ℕ) → procedure_of p box number ≡ Some q →
     rejects_plainly (step (compiled p) (entry (compiled p) (number_of p box number) args) budget vars).end

@@ -7,20 +7,25 @@ use Rattle.method_code.specs.declared.activation.Activation.{Activation}
 use Rattle.method_code.specs.Chains.{last_of, all_but_last, accepted, rejected, back_in, after_accepted}
 use Rattle.method_code.specs.Chains.{after_rejected}
 
+-- the last item
 get-snoc : {X : Type 0} (xs : List X) (x : X) → slice_get (xs ++ x ∷ []) (length xs) ≡ Some x
 get-snoc [] x = refl
 get-snoc (y ∷ xs) x = get-snoc xs x
 
+-- the items before the last one
 take-snoc : {X : Type 0} (xs : List X) (x : X) → take (length xs) (xs ++ x ∷ []) ≡ xs
 take-snoc [] x = refl
 take-snoc (y ∷ xs) x = ap (λ ys. y ∷ ys) (take-snoc xs x)
 
+-- how many those are
 one-less : {X : Type 0} (xs : List X) (x : X) → length (xs ++ x ∷ []) - 1 ≡ length xs
 one-less xs x = omega (arith, length-append xs (x ∷ []))
 
+-- the last one that waits
 pub last-snoc : (ws : List Waiting) (w : Waiting) → last_of (ws ++ w ∷ []) ≡ Some w
 last-snoc ws w = ap (λ n. slice_get (ws ++ w ∷ []) n) (one-less ws w) ∙ get-snoc ws w
 
+-- those before it
 pub front-snoc : (ws : List Waiting) (w : Waiting) → all_but_last (ws ++ w ∷ []) ≡ ws
 front-snoc ws w = ap (λ n. take n (ws ++ w ∷ [])) (one-less ws w) ∙ take-snoc ws w
 

@@ -1,5 +1,5 @@
 -- The code of a statement that fits does what the statement means.
-use Rattle.std.proofs.Common.{◌≡◌, ℕ, Bool, true, IsTrue, List, [], ◌∷◌, map, Option, Some, refl, sym, ap}
+use Rattle.std.proofs.Common.{◌≡◌, ℕ, Bool, true, IsTrue, List, [], ◌∷◌, Option, Some, sym}
 use Rattle.std.proofs.Common.{subst, subst₂}
 use Rattle.std.specs.Prelude.{slice_get}
 use Rattle.std.specs.List.{flat_map}
@@ -12,7 +12,6 @@ use Rattle.seuss_program.specs.declared.tree.Statement.{Statement, fold-roll-Sta
 use Rattle.seuss_program.specs.declared.tree.Statement.{roll-Statement, ind-Statement}
 use Rattle.seuss_program.specs.declared.tree.Statement.TheOpen as S
 use Rattle.seuss_program.specs.declared.tree.Statement.TheOpen.{Statement-F}
-use Rattle.seuss_program.specs.declared.tree.Statement.TheShapes.{former-Statement-If-1}
 use Rattle.seuss_program.specs.Programs.{target_of, method_of}
 use Rattle.seuss_program.specs.Bodies.{Callee, Meaning, statement, statement_step, body, in_turn}
 use Rattle.seuss_program.specs.Keeping.{Scope, statement_fits, body_fits, call_fits, is_total, all_true}
@@ -22,32 +21,20 @@ use Rattle.method_code.specs.declared.instruction.Instruction.{Instruction}
 use Rattle.method_code.specs.declared.method.Method.{Method}
 use Rattle.method_code.specs.declared.activation.Waiting.{Waiting}
 use Rattle.method_code.specs.Codes.{compiled, code_of, code_step, joined, given_number}
+pub use Rattle.method_code.proofs.CodeLemmas.{each, each_each, code-layer}
 use Rattle.method_code.proofs.Following.{Performs}
 use Rattle.method_code.proofs.Simulation.{Simulates, set_simulates, none_simulates, then_simulates}
 use Rattle.method_code.proofs.Simulation.{all_simulate, if_simulates, while_simulates, and_left, and_right}
 use Rattle.method_code.proofs.Calling.{call_simulates}
 
--- a function of each of the statements inside a statement
-abbrev pub each : {A B : Type 0} → (A → B) → List A → List B
-each {A} {B} f xs = (former-Statement-If-1 Ref).map A B f xs
-
-pub each_each : {A B C : Type 0} (f : A → B) (g : B → C) (xs : List A) →
-    each g (each f xs) ≡ map (λ x. g (f x)) xs
-each_each f g [] = refl
-each_each f g (x ∷ xs) = ap (λ l. g (f x) ∷ l) (each_each f g xs)
-
-pub code-layer : (d : Statement-F Ref (Statement Ref)) →
-    code_of (roll-Statement Ref d) ≡ code_step
-    (map-Statement Ref (Statement Ref) (List Instruction) code_of d)
-unfolding code_of
-code-layer d = fold-roll-Statement Ref (List Instruction) code_step d
-
+-- whether a statement fits, by those inside it
 pub fits-layer : (s : Scope) (d : Statement-F Ref (Statement Ref)) →
     statement_fits s (roll-Statement Ref d) ≡ K.statement_step s
     (map-Statement Ref (Statement Ref) Bool (statement_fits s) d)
 unfolding statement_fits
 fits-layer s d = fold-roll-Statement Ref Bool (K.statement_step s) d
 
+-- what a statement means, by those inside it
 pub meaning-layer : (p : Program) (callee : Callee) (box : ℕ) (d : Statement-F Ref (Statement Ref)) →
     statement p callee box (roll-Statement Ref d)
     ≡ statement_step p callee box (map-Statement Ref (Statement Ref) Meaning (statement p callee box) d)
@@ -95,6 +82,7 @@ module _ (p : Program) (callee : Callee) (s : Scope) (box : ℕ) (m : Method) (m
         (λ x. statement_fits s (f x)) each_fits xs
         (subst (λ l. IsTrue (all_true l)) (each_each f (statement_fits s) xs) fits))
 
+    -- one layer of a statement
     layer : (y : Statement-F Ref X) → FitsSo (roll-Statement Ref (map-Statement Ref X (Statement Ref) f y))
     layer (S.Let name kind e) = layer_fits (S.Let name kind e)
         (λ fits. set_simulates p box m method ws plain name e)
@@ -116,6 +104,7 @@ module _ (p : Program) (callee : Callee) (s : Scope) (box : ℕ) (m : Method) (m
         (in_turn (each (statement p callee box) (each f turn)))
         (inner turn (and_right (is_of KV.Bool (kind_in s cond)) _ fits)))
 
+  -- the code of each statement simulates it
   pub statement_simulates : (t : Statement Ref) → IsTrue (statement_fits s t) →
       Simulates p box m method ws plain (code_of t) (statement p callee box t)
   unfolding FitsSo

@@ -10,9 +10,11 @@ use Rattle.seuss_program.specs.declared.state.State.{State}
 use Rattle.seuss_program.specs.Programs.{vars_of, with_var}
 use Rattle.method_code.specs.Chains.{with_vars}
 
+-- variables with these values
 abbrev pub vars_with : List Value → Vars
 vars_with values = record { values = values }
 
+-- a state with these boxes
 abbrev pub state_with : List Vars → State
 state_with boxes = record { boxes = boxes }
 
@@ -25,11 +27,13 @@ pub with_twice : (σ : State) (box : ℕ) (vs ws : List Value) →
     with_vars (with_vars σ box vs) box ws ≡ with_vars σ box ws
 with_twice σ box vs ws = ap state_with (set-set σ.boxes box (vars_with vs) (vars_with ws))
 
+-- no place past the last one is set
 past_set : {A : Type 0} (l : List A) (i : ℕ) (a : A) → length l ≤ i → set l i a ≡ l
 past_set [] i a h = refl
 past_set (x ∷ l) zero a h = absurd (omega (arith, h))
 past_set (x ∷ l) (suc i) a h = ap (λ r. x ∷ r) (past_set l i a (omega (arith, h)))
 
+-- nothing stands past the last one
 past_get : {A : Type 0} (l : List A) (i : ℕ) (d : A) → length l ≤ i → get_or l i d ≡ d
 past_get [] i d h = refl
 past_get (x ∷ l) zero d h = absurd (omega (arith, h))

@@ -26,7 +26,7 @@ use Rattle.method_code.specs.Steps.{walked, Stepped, leaves, waits, paid, settle
 use Rattle.method_code.specs.Steps.{judged_head, called_early, entered}
 use Rattle.method_code.proofs.CodeCalls.{FormAt, EarlyAt, CallsTotal, EachTotal, EachEarly, each_drop}
 
--- a step that calls: its procedure waits behind the instruction that takes the result
+-- a step that calls: its procedure waits after the instruction that takes the result
 pub record Calls (p : Program) (box method target called : ℕ) (s : Stepped) : Type 0 where
   pub total : FormAt p is_total (target_of p box (R.Given target)) called
   pub place : 2 ≤ s.frame.place
@@ -66,6 +66,7 @@ module _ (p : Program) (box : ℕ) where
   FreshEnds method budget vars s (E.Trapped t) = s.budget ≤ budget
   FreshEnds method budget vars s E.Spent = s.budget ≤ budget
 
+  -- a run ends as a step may
   fresh_runs : (method budget : ℕ) (vars : List Value) (s : Stepped) (end : End) →
       RunEnds method budget s end → FreshEnds method budget vars s end
   fresh_runs method budget vars s (E.Call target called args true) r = absurd r
@@ -76,6 +77,7 @@ module _ (p : Program) (box : ℕ) where
   fresh_runs method budget vars s (E.Trapped t) r = r
   fresh_runs method budget vars s E.Spent r = r
 
+  -- and so with more budget
   dearer : (method budget : ℕ) (s : Stepped) (end : End) → RunEnds method budget s end →
       RunEnds method (suc budget) s end
   dearer method budget s (E.Call target called args true) r = absurd r
@@ -95,6 +97,7 @@ module _ (p : Program) (box : ℕ) where
   MoveTotal M.Reject = Unit {0}
   MoveTotal (M.Trap t) = Unit {0}
 
+  -- a name that takes a value calls nothing
   put_total : (name : Ref) (v : Value) (vars slots : List Value) → MoveTotal (put name v vars slots).move
   put_total (R.Var k) v vars slots = tt
   put_total (R.Slot k) v vars slots = tt
@@ -102,6 +105,7 @@ module _ (p : Program) (box : ℕ) where
   put_total (R.Method k) v vars slots = tt
   put_total (R.Cat k) v vars slots = tt
 
+  -- an instruction calls a total method, if any
   acted_total : (i : Instruction) → CallsTotal p box i → (vars slots : List Value) →
       MoveTotal (acted i vars slots).move
   acted_total (I.Set name e) c vars slots = by (value e vars slots)
@@ -138,6 +142,7 @@ module _ (p : Program) (box : ℕ) where
   acted_total I.Return c vars slots = tt
   acted_total I.Reject c vars slots = tt
 
+  -- so does what a walk halts at
   walked_total : (move : Move) (at : ℕ) (a : Acted) (next : ℕ → List Value → List Value → Halted) →
       MoveTotal a.move →
       ((skip : ℕ) (vars slots : List Value) → MoveTotal (next skip vars slots).move) →
@@ -149,6 +154,7 @@ module _ (p : Program) (box : ℕ) where
   walked_total M.Reject at a next here there = here
   walked_total (M.Trap t) at a next here there = here
 
+  -- so does a walk
   walk_total : (is : List Instruction) (at skip : ℕ) (vars slots : List Value) → EachTotal p box is →
       MoveTotal (walk is at skip vars slots).move
   walk_total [] at skip vars slots each = tt
@@ -157,6 +163,7 @@ module _ (p : Program) (box : ℕ) where
       walked_total (acted i vars slots).move at (acted i vars slots) (walk is (suc at))
       (acted_total i each.0 vars slots) (λ skip vs ss. walk_total is (suc at) skip vs ss each.1)
 
+  -- a paid call ends a step
   paid_ends : (method budget : ℕ) (h : Halted) (target called : ℕ) (args : List Value) →
       FormAt p is_total (target_of p box (R.Given target)) called →
       RunEnds method budget (paid method budget h.at h.vars h.slots (E.Call target called args false))
@@ -165,6 +172,7 @@ module _ (p : Program) (box : ℕ) where
   paid_ends method (suc budget) h target called args total =
       (record { total = total; place = omega arith; same = refl }, omega arith)
 
+  -- what a walk halts at ends a step
   settled_ends : (m : Method) (method budget : ℕ) (turn : ℕ → List Value → List Value → Stepped)
       (h : Halted) (move : Move) → MoveTotal move →
       ((to : ℕ) (vars slots : List Value) → RunEnds method budget (turn to vars slots)
@@ -178,6 +186,7 @@ module _ (p : Program) (box : ℕ) where
   settled_ends m method budget turn h M.Reject total turns = omega arith
   settled_ends m method budget turn h (M.Trap t) total turns = omega arith
 
+  -- how a step from an instruction ends
   pub runs_end : (m : Method) (method budget at : ℕ) (vars slots : List Value) →
       EachTotal p box m.instructions →
       RunEnds method budget (runs m method budget at vars slots) (runs m method budget at vars slots).end
@@ -199,6 +208,7 @@ module _ (p : Program) (box : ℕ) where
   HeadEarly (Ok None) = Unit {0}
   HeadEarly (Ok (Some h)) = (call : CallCode) → h.early ≡ Some call → EarlyAt p box call
 
+  -- a chosen head calls a procedure that may reject
   head_early : (hs : List Head) (vars slots : List Value) → EachEarly p box hs →
       HeadEarly (chosen_head hs vars slots)
   head_early [] vars slots each = tt
@@ -214,6 +224,7 @@ module _ (p : Program) (box : ℕ) where
       by (Err t) others = tt
       by (Ok v) others = either (bool_of v) others
 
+  -- how a choice ends
   chosen_ends : (m : Method) (method budget : ℕ) (r : Result (Option Head) Trap) (vars slots : List Value) →
       EachTotal p box m.instructions → HeadEarly r →
       FreshEnds method budget vars (T.chosen m method budget r vars slots)
@@ -242,6 +253,7 @@ module _ (p : Program) (box : ℕ) where
           (runs m method budget h.start vars slots).end (runs_end m method budget h.start vars slots each)
       by (Some call) ok = called call (ok call refl) (arguments call.args vars slots)
 
+  -- how a step from an entry ends
   pub fresh_ends : (m : Method) (method budget : ℕ) (hs : List Head) (vars slots : List Value) →
       EachTotal p box m.instructions → EachEarly p box hs →
       FreshEnds method budget vars (entered m method budget (N.Partial hs) vars slots)

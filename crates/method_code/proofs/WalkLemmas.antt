@@ -39,11 +39,12 @@ drop-at [] at i h = absurd (none-some i h)
 drop-at (j ∷ is) zero i h = ap (λ o. unwrap_or o j ∷ is) h
 drop-at (j ∷ is) (suc at) i h = drop-at is at i h
 
+-- the code from a place begins with what stands there
 pub drop-item : {X : Type 0} (is : List X) (at : ℕ) (i : X) → at < length is → i ≡ get_or is at i →
     drop at is ≡ i ∷ drop (suc at) is
 drop-item is at i within is_it = drop-cons is at i within ∙ ap (λ x. x ∷ drop (suc at) is) (sym is_it)
 
--- behind the last place nothing stands
+-- after the last place nothing stands
 pub drop-past : {X : Type 0} (is : List X) (at : ℕ) → slice_get is at ≡ None → drop at is ≡ []
 drop-past [] zero h = refl
 drop-past [] (suc at) h = refl
@@ -78,7 +79,7 @@ module _ (is : List Instruction) (at : ℕ) (vars slots : List Value) where
       ∙ (ap (λ (a : Acted). walked a.move at a (walk (drop (suc at) is) (suc at))) does
       ∙ halted (walk (drop (suc at) is) (suc at)))
 
-  -- behind the last instruction
+  -- after the last instruction
   pub walk-ends : slice_get is at ≡ None → walk (drop at is) at 0 vars slots
       ≡ halts at (acts vars slots M.Reject)
   walk-ends h =

@@ -43,6 +43,7 @@ longer p (suc n) (suc m) a σ budget passed le h =
 
 module _ (p : Program) (a : ActionInfo) (σ : State) (budget steps : ℕ)
     (enough : 2 * budget + 2 * level_of p a.box_number + 1 ≤ steps) where
+  -- a chain that is over ends as the attempt
   ends : (j : ℕ) (passed : Passed) (called : Called) → j ≤ 2 * budget + 2 * level_of p a.box_number →
       chain p (suc j) (begun p a) σ budget ≡ Some passed →
       outcome_of passed.end ≡ called.outcome → passed.state ≡ called.state → passed.budget ≡ called.budget →
@@ -57,6 +58,7 @@ module _ (p : Program) (a : ActionInfo) (σ : State) (budget steps : ℕ)
         budget = b;
       }
 
+  -- by the outcome of the attempt
   by_outcome : (outcome : Outcome) (found : Option ℤ) (τ : State) (left : ℕ) →
       CallFollows p a.box_number (number_of p a.box_number a.procedure) [] false false
       (λ n. chain p (suc n) (begun p a) σ budget) budget (2 * budget + 2 * level_of p a.box_number)
@@ -79,6 +81,7 @@ module _ (p : Program) (a : ActionInfo) (σ : State) (budget steps : ℕ)
   by_outcome O.Spent found τ left f = let x = f.by in
       ends x.0 (record { end = P.Spent; state = τ; budget = left }) _ x.1 x.2 refl refl refl
 
+-- a chain of enough steps is the attempt
 pub chain-attempt : (p : Program) → Keeps p → (a : ActionInfo) (σ : State) (budget steps : ℕ) →
     2 * budget + 2 * level_of p a.box_number + 1 ≤ steps →
     EndsAs (chain p steps (begun p a) σ budget) (action_attempt p (Some a) σ budget)

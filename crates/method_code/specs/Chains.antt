@@ -34,6 +34,7 @@ begun p action = record {
   plain = false;
 }
 
+-- the pass of the action of this number at its beginning
 abbrev pub beginning : Program → ℕ → Activation
 beginning p action = begun p (slice_index_or p.actions action (record { box_number = 0; procedure = 0 }))
 
@@ -49,7 +50,7 @@ calling p a target method args partial =
     }
 
 -- A caller goes on after an accepted call: at the instruction that takes the result, which is then the
--- last slot; and behind that instruction where there is no result.
+-- last slot; and after that instruction where there is no result.
 abbrev pub after_accepted : Frame → Option ℤ → Frame
 after_accepted frame None = frame
 after_accepted frame (Some z) =
@@ -66,17 +67,20 @@ abbrev pub back_in : List Waiting → Bool → Waiting → Frame → Turned
 back_in waiting plain w frame = Next
     (record { box_number = w.box_number; frame = frame; waiting = waiting; plain = plain })
 
+-- the procedure that has waited last
 abbrev pub last_of : List Waiting → Option Waiting
 last_of waiting = slice_get waiting (length waiting - 1)
 
+-- the procedures that wait, without the last one
 abbrev pub all_but_last : List Waiting → List Waiting
 all_but_last waiting = take (length waiting - 1) waiting
 
--- a call is accepted, or rejected; where nothing waits for it, the pass is over
+-- a call is accepted; where nothing waits for it, the pass is over
 abbrev pub accepted : Activation → Option ℤ → Option Waiting → Turned
 accepted a found None = Over P.Accepted
 accepted a found (Some w) = back_in (all_but_last a.waiting) a.plain w (after_accepted w.frame found)
 
+-- a call is rejected; where nothing waits for it, the pass is over
 abbrev pub rejected : Activation → Bool → Option Waiting → Turned
 rejected a plain None = Over (if plain then P.PlainRejected else P.Rejected)
 rejected a plain (Some w) = back_in (all_but_last a.waiting) plain w (after_rejected w)
@@ -100,6 +104,7 @@ pub record Passed : Type 0 where
   pub state : State
   pub budget : ℕ
 
+-- a pass goes on by a chain of steps, or is over
 abbrev pub went_on : Turned → State → ℕ → (Activation → State → ℕ → Option Passed) → Option Passed
 went_on (Next a) state budget chain = chain a state budget
 went_on (Over end) state budget chain = Some (record { end = end; state = state; budget = budget })

@@ -46,7 +46,7 @@ call_code call = record
 abbrev pub joined : List (List Instruction) → List Instruction
 joined parts = flat_map (λ part. part) parts
 
--- a choice passes over the first branch where its condition is false, and over the second one behind the
+-- a choice passes over the first branch where its condition is false, and over the second one after the
 -- first
 abbrev pub if_code : Expr Ref → List Instruction → List Instruction → List Instruction
 if_code cond holds fails = I.SkipUnless cond (length holds + 1) ∷ (holds ++ I.Skip (length fails) ∷ fails)
@@ -55,6 +55,7 @@ if_code cond holds fails = I.SkipUnless cond (length holds + 1) ∷ (holds ++ I.
 abbrev pub while_code : Expr Ref → List Instruction → List Instruction
 while_code cond turn = I.Skip (length turn) ∷ (turn ++ I.Again cond (length turn) ∷ [])
 
+-- the code of one statement, over that of the statements inside it
 abbrev pub code_step : Statement-F Ref (List Instruction) → List Instruction
 code_step (S.Let name kind e) = I.Set name e ∷ []
 code_step (S.Assign name e) = I.Set name e ∷ []
@@ -66,19 +67,21 @@ code_step (S.While cond turn) = while_code cond (joined turn)
 unfoldable pub code_of : Statement Ref → List Instruction
 code_of s = fold-Statement Ref (List Instruction) code_step s
 
--- the call of a preprocedure, and the instruction that takes its result
+-- the call of a preprocedure, where there is one
 abbrev pub early_of : Option (Pre Ref) → Option CallCode
 early_of None = None
 early_of (Some pre) = Some (call_code pre.call)
 
+-- the instruction that takes the result of a preprocedure, where there is one
 abbrev pub take_code : Option (Pre Ref) → List Instruction
 take_code None = []
 take_code (Some pre) = I.Take pre.bind ∷ []
 
--- after the body of an alternative the call accepts, or behind `~>` rejects
+-- after the body of an alternative the call accepts; where the alternative has `~>`, it rejects
 abbrev pub last_code : Alternative Ref → List Instruction
 last_code alt = (if alt.positive then I.Return else I.Reject) ∷ []
 
+-- the code of an alternative: it takes the result of its preprocedure, runs its body, and ends
 abbrev pub alternative_code : Alternative Ref → List Instruction
 alternative_code alt = take_code alt.pre ++ (flat_map code_of alt.body ++ last_code alt)
 
@@ -96,6 +99,7 @@ entry_of (F.Total ss) = E.Total
 entry_of (F.Partial alts) = E.Partial (heads 1 alts)
 entry_of (F.Action alts) = E.Partial (heads 1 alts)
 
+-- the code of a procedure: a body with its return, or a rejection and then the alternatives
 abbrev pub form_code : Form Ref → List Instruction
 form_code (F.Total ss) = flat_map code_of ss ++ I.Return ∷ []
 form_code (F.Partial alts) = I.Reject ∷ flat_map alternative_code alts
@@ -123,9 +127,11 @@ abbrev pub number_at : Program → ℕ → ℕ → Option (Proc Ref) → ℕ
 number_at p cat number None = length (compiled p)
 number_at p cat number (Some q) = length (cats_code (take cat p.cats)) + number
 
+-- the number of the cat of a box; one that isn't there counts as of the first cat
 abbrev pub cat_number : Option BoxInfo → ℕ
 cat_number None = 0
 cat_number (Some b) = b.cat
 
+-- the number over all cats of a procedure of a box, by its number in the cat
 abbrev pub number_of : Program → ℕ → ℕ → ℕ
 number_of p box number = number_at p (cat_number (slice_get p.boxes box)) number (procedure_of p box number)

@@ -21,10 +21,11 @@ use Rattle.method_code.specs.Steps.{Stepped}
 abbrev pub HasVars : Program → ℕ → List Value → Type 0
 HasVars p box vars = AreOf vars (vars_in (cat_of p box))
 
--- slots of a procedure, and slots to which the result of a call is added
+-- slots of a procedure, of the kinds that it declares
 abbrev pub HasSlots : Proc Ref → List Value → Type 0
 HasSlots q slots = AreOf slots (slot_kinds q)
 
+-- slots of a procedure, with the result of a call as one more
 abbrev pub HasResult : Proc Ref → List Value → Type 0
 HasResult q slots = AreOf slots (slot_kinds q ++ K.Int ∷ [])
 

@@ -27,10 +27,12 @@ pub data Kind : Type 0 where
   Commit : Kind
   Late : Kind
 
+-- whether an entry is that of a total method
 abbrev pub begins_total : Entry → Bool
 begins_total N.Total = true
 begins_total (N.Partial heads) = false
 
+-- whether a procedure is there and total
 abbrev pub is_total : Option Method → Bool
 is_total None = false
 is_total (Some m) = begins_total m.entry
@@ -54,6 +56,7 @@ kind_by true early = Late
 kind_by false true = Early
 kind_by false false = Commit
 
+-- the kind of a step: late, early or commit
 abbrev pub kind_of : List Method → Frame → End → Kind
 kind_of code frame end = kind_by (is_late code frame) (calls_early end)
 
@@ -65,6 +68,7 @@ pub record Made : Type 0 where
   pub vars : List Value
   pub stepped : Stepped
 
+-- the steps of a pass that goes on; one that is over has none left
 abbrev pub steps_on : Turned → ℕ → (Activation → ℕ → List Made) → List Made
 steps_on (Next a) budget steps = steps a budget
 steps_on (Over end) budget steps = []
@@ -77,6 +81,7 @@ steps_made p (vars ∷ row) a budget =
     record { box = a.box_number; frame = a.frame; budget = budget; vars = vars; stepped = s }
     ∷ steps_on (turned p (record a { frame = s.frame }) s.end) s.budget (steps_made p row)
 
+-- the end of a pass, which goes on or is over
 abbrev pub end_on : Turned → ℕ → (Activation → ℕ → Option PassEnd) → Option PassEnd
 end_on (Next a) budget ends = ends a budget
 end_on (Over end) budget ends = Some end
@@ -102,7 +107,7 @@ kinds_of code steps = map (λ (s : Made). kind_of code s.frame s.stepped.end) st
 abbrev pub IsInOrder : List Kind → Type 0
 IsInOrder kinds = (early late : ℕ) × (kinds ≡ replicate early Early ++ Commit ∷ replicate late Late)
 
--- whether a step, and a pass, ended by a plain rejection
+-- whether a step ended by a plain rejection
 abbrev pub rejects_plainly : End → Bool
 rejects_plainly (E.Call target method args partial) = false
 rejects_plainly (E.Returned found) = false
@@ -111,6 +116,7 @@ rejects_plainly E.Rejected = false
 rejects_plainly (E.Trapped t) = false
 rejects_plainly E.Spent = false
 
+-- whether a pass ended by a plain rejection
 abbrev pub is_plain : PassEnd → Bool
 is_plain P.Accepted = false
 is_plain P.PlainRejected = true

@@ -9,4 +9,7 @@ pub mod Kinds
 pub mod Singles
 pub mod Frames
 pub mod OwnSteps
+pub mod Plans
+pub mod Records
+pub mod CallsOfTexts
 pub mod Beside

@@ -21,7 +21,7 @@ use Rattle.method_code.specs.declared.frame.End.TheVariants as E
 use Rattle.method_code.specs.Steps.{Stepped}
 use Rattle.method_code.specs.Chains.{with_vars}
 
--- whether a statement has no call and no loop, where those inside it have none
+-- whether one statement has no call and no loop, over the statements inside it
 abbrev pub single_step : Statement-F Ref Bool → Bool
 single_step (S.Let name kind e) = true
 single_step (S.Assign name e) = true
@@ -29,13 +29,16 @@ single_step (S.Call name call) = false
 single_step (S.If cond holds fails) = all_true holds && all_true fails
 single_step (S.While cond turn) = false
 
+-- whether a statement has no call and no loop in it
 unfoldable pub is_single_statement : Statement Ref → Bool
 is_single_statement s = fold-Statement Ref Bool single_step s
 
+-- whether a body has no call and no loop in it
 abbrev pub is_single_body : List (Statement Ref) → Bool
 is_single_body [] = true
 is_single_body (s ∷ ss) = is_single_statement s && is_single_body ss
 
+-- whether none of these alternatives has a preprocedure, a call or a loop
 abbrev pub are_single : List (Alternative Ref) → Bool
 are_single [] = true
 are_single (a ∷ alts) = (is_none a.pre && is_single_body a.body) && are_single alts
@@ -46,7 +49,7 @@ is_single (F.Total ss) = is_single_body ss
 is_single (F.Partial alts) = are_single alts
 is_single (F.Action alts) = are_single alts
 
--- the outcome and the result of a step that leaves its procedure
+-- the outcome of a step that leaves its procedure
 abbrev pub outcome_by : End → Option Outcome
 outcome_by (E.Call target method args partial) = None
 outcome_by (E.Returned found) = Some O.Accepted
@@ -55,6 +58,7 @@ outcome_by E.Rejected = Some O.Rejected
 outcome_by (E.Trapped t) = Some (O.Trapped t)
 outcome_by E.Spent = Some O.Spent
 
+-- the result of a step that leaves its procedure
 abbrev pub result_by : End → Option ℤ
 result_by (E.Call target method args partial) = None
 result_by (E.Returned found) = found
@@ -73,11 +77,12 @@ pub record IsRun (s : Stepped) (box : ℕ) (before : State) (budget : ℕ) (call
   pub free : s.budget ≡ budget
   pub called_free : called.budget ≡ budget
 
--- whether every precondition is false
+-- whether a precondition has the value false
 abbrev pub is_false : Evaluated → Bool
 is_false (Err t) = false
 is_false (Ok v) = not (bool_of v)
 
+-- whether every precondition is false
 abbrev pub none_holds : List (Alternative Ref) → List Value → List Value → Bool
 none_holds [] vars slots = true
 none_holds (a ∷ alts) vars slots = is_false (value a.cond vars slots) && none_holds alts vars slots

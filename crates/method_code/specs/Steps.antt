@@ -29,6 +29,7 @@ pub record Acted : Type 0 where
   pub slots : List Value
   pub move : Move
 
+-- an instruction leaves these variables and these slots, and this comes after it
 abbrev pub acts : List Value → List Value → Move → Acted
 acts vars slots move = record { vars = vars; slots = slots; move = move }
 
@@ -40,17 +41,20 @@ put (R.Given at) v vars slots = acts vars slots (M.On 0)
 put (R.Method at) v vars slots = acts vars slots (M.On 0)
 put (R.Cat at) v vars slots = acts vars slots (M.On 0)
 
+-- a name takes the value of an expression, or the step traps
 abbrev pub put_value : Ref → Evaluated → List Value → List Value → Acted
 put_value name (Err t) vars slots = acts vars slots (M.Trap t)
 put_value name (Ok v) vars slots = put name v vars slots
 
--- the last slot, as a number, and the slots before it
+-- the last slot, as a number
 abbrev pub last_number : List Value → ℤ
 last_number slots = int_of (slice_index_or slots (length slots - 1) (V.Int (pos 0)))
 
+-- the slots without the last one
 abbrev pub all_but_last : List Value → List Value
 all_but_last slots = take (length slots - 1) slots
 
+-- the last slot is taken off, into a name where there is one
 abbrev pub taken : Option Ref → List Value → List Value → Acted
 taken None vars slots = acts vars (all_but_last slots) (M.On 0)
 taken (Some name) vars slots = put name (V.Int (last_number slots)) vars (all_but_last slots)
@@ -60,6 +64,7 @@ abbrev pub decided : Evaluated → Move → Move → Move
 decided (Err t) holds fails = M.Trap t
 decided (Ok v) holds fails = if bool_of v then holds else fails
 
+-- a call whose arguments were evaluated
 abbrev pub called_with : CallCode → Result (List Value) Trap → Move
 called_with call (Err t) = M.Trap t
 called_with call (Ok args) = M.Call call.target call.method args
@@ -84,9 +89,11 @@ pub record Halted : Type 0 where
   pub slots : List Value
   pub move : Move
 
+-- an instruction halts at this place
 abbrev pub halts : ℕ → Acted → Halted
 halts at a = record { at = at; vars = a.vars; slots = a.slots; move = a.move }
 
+-- goes on after an instruction that goes on to a later one, and else halts at it
 abbrev pub walked : Move → ℕ → Acted → (ℕ → List Value → List Value → Halted) → Halted
 walked (M.On many) at a next = next many a.vars a.slots
 walked (M.Back many) at a next = halts at a
@@ -95,7 +102,7 @@ walked M.Return at a next = halts at a
 walked M.Reject at a next = halts at a
 walked (M.Trap t) at a next = halts at a
 
--- The instructions from a place on, of which so many are passed over first. Behind the last one it
+-- The instructions from a place on, of which so many are passed over first. After the last one it
 -- rejects, which no compiled code comes to.
 abbrev pub walk : List Instruction → ℕ → ℕ → List Value → List Value → Halted
 walk [] at skip vars slots = halts (at + skip) (acts vars slots M.Reject)
@@ -121,7 +128,7 @@ leaves method budget vars end =
           end;
     }
 
--- A step that calls. Its procedure waits behind the instruction that takes the result.
+-- A step that calls. Its procedure waits after the instruction that takes the result.
 abbrev pub waits : ℕ → ℕ → ℕ → List Value → List Value → End → Stepped
 waits method start budget vars slots end =
     record {
@@ -137,6 +144,7 @@ abbrev pub paid : ℕ → ℕ → ℕ → List Value → List Value → End → 
 paid method zero at vars slots end = leaves method 0 vars E.Spent
 paid method (suc budget) at vars slots end = waits method (at + 1) budget vars slots end
 
+-- the result of a procedure that has one, from its slot
 abbrev pub result_in : Option ℕ → List Value → Option ℤ
 result_in None slots = None
 result_in (Some at) slots = Some (int_of (slice_index_or slots at (V.Int (pos 0))))
@@ -166,6 +174,7 @@ abbrev pub judged_head : Evaluated → Head → Result (Option Head) Trap → Re
 judged_head (Err t) head others = Err t
 judged_head (Ok v) head others = if bool_of v then Ok (Some head) else others
 
+-- the first alternative whose precondition holds, where there is one
 abbrev pub chosen_head : List Head → List Value → List Value → Result (Option Head) Trap
 chosen_head [] vars slots = Ok None
 chosen_head (head ∷ others) vars slots = judged_head (value head.cond vars slots) head
@@ -189,6 +198,7 @@ chosen m method budget (Err t) vars slots = leaves method budget vars (E.Trapped
 chosen m method budget (Ok None) vars slots = leaves method budget vars E.RejectedPlain
 chosen m method budget (Ok (Some head)) vars slots = begun m method budget head.start head.early vars slots
 
+-- a procedure begins: with its body, or with the choice of an alternative
 abbrev pub entered : Method → ℕ → ℕ → Entry → List Value → List Value → Stepped
 entered m method budget N.Total vars slots = runs m method budget 0 vars slots
 entered m method budget (N.Partial heads) vars slots =
@@ -204,14 +214,16 @@ abbrev pub step_in : Option Method → Frame → ℕ → List Value → Stepped
 step_in None frame budget vars = leaves frame.method budget vars E.Rejected
 step_in (Some m) frame budget vars = from_place m frame.method budget frame.place vars frame.slots
 
+-- A method step, by the code of all procedures. Where there is no such procedure, it rejects.
 abbrev pub step : List Method → Frame → ℕ → List Value → Stepped
 step code frame budget vars = step_in (slice_get code frame.method) frame budget vars
 
--- the entry of a procedure, with these arguments
+-- the slots of a procedure after its arguments, as they are at its entry; one that isn't there has none
 abbrev pub locals_in : Option Method → List Value
 locals_in None = []
 locals_in (Some m) = m.locals
 
+-- the frame at the entry of a procedure, with these arguments
 abbrev pub entry : List Method → ℕ → List Value → Frame
 entry code method args = record
     { method = method; place = 0; slots = args ++ locals_in (slice_get code method) }

@@ -1,3 +1,5 @@
+//! What the instructions of a procedure do, up to the first one that halts.
+
 ghost use Rattle.std.specs.Prelude.{◌≡◌, ◌≤◌, ◌<◌, ◌⊎◌, length, drop, IfOk};
 ghost use Rattle.seuss_program.specs.Values.{value};
 ghost use Rattle.seuss_program.specs.Bodies.{arguments as arguments_of};
@@ -132,7 +134,7 @@ fn act(
 }
 
 /// Goes through instructions from a place on, up to the first one that doesn't go on to a later one,
-/// and answers its place and what comes after it. Behind the last one it rejects.
+/// and answers its place and what comes after it. After the last one it rejects.
 pub fn walk_on(
     alloc: Global,
     instructions: &[Instruction],

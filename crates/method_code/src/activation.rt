@@ -1,7 +1,11 @@
-ghost use Rattle.std.specs.Prelude.{◌≡◌, ◌++◌, ◌∷◌, [], pos, slice_index_or, Option, Some, IfOk};
+//! One pass of an attempt, from step to step.
+
+ghost use Rattle.std.specs.Prelude.{◌≡◌, ◌++◌, ◌∷◌, [], pos, Option, Some, IfOk};
 ghost use Rattle.std.specs.Borrow.{sem};
 ghost use Rattle.seuss_program.specs.declared.state.Value.TheVariants.{Int};
+ghost use Rattle.seuss_program.specs.declared.program.Program.{Program};
 ghost use Rattle.method_code.specs.Codes.{compiled};
+ghost use Rattle.method_code.specs.Plans.{AreMadeFrom};
 ghost use Rattle.method_code.specs.Chains.{Next, last_of, beginning, calling, after_accepted};
 ghost use Rattle.method_code.specs.Chains.{after_rejected};
 ghost use Rattle.method_code.specs.Chains.{accepted, rejected, turned};
@@ -11,9 +15,9 @@ ghost use Rattle.method_code.specs.Lending.{LendsFrame};
 use crate::code::Code;
 use crate::entering::entry;
 use crate::frame::{End, Frame, Turn};
-use crate::numbering::{number_of, target};
+use crate::plan::Plan;
 use seuss_base::{List, Memory, PassEnd};
-use seuss_program::{ActionInfo, Program, Value};
+use seuss_program::{Program, Value};
 use std::alloc::Global;
 use std::mem;
 
@@ -33,17 +37,6 @@ pub struct Activation {
     frame: Frame,
     waiting: List<Waiting>,
     plain: bool,
-}
-
-/// An action, by its number.
-fn action_at(program: &Program, action: u32) -> ActionInfo
-    ensures { result ≡ slice_index_or program.now.actions action (record { box_number = 0; procedure = 0 }) }
-{
-    let none = ActionInfo {
-        box_number: 0,
-        procedure: 0,
-    };
-    program.actions.get(action as u64).copied().unwrap_or(none)
 }
 
 /// The frame in which a caller goes on after an accepted call.
@@ -84,8 +77,22 @@ impl Activation {
         requires { code.now ≡ compiled program.now }
         ensures { IfOk result (λ a. a ≡ beginning program.now action) }
     {
-        let info = action_at(program, action);
-        let method = number_of(code, program, info.box_number, info.procedure);
+        let plan = Plan::of(alloc, program)?;
+        Activation::begin_by(alloc, code, &plan, action)
+    }
+
+    /// The pass of an action at its beginning, by the plan of a program.
+    pub fn begin_by(
+        alloc: Global,
+        code: &Code,
+        plan: &Plan,
+        action: u32,
+    ) -> Result<Activation, Memory>
+        ensures { (p : Program) → AreMadeFrom p code.now plan.now →
+            IfOk result (λ a. a ≡ beginning p action) }
+    {
+        let info = plan.action(action);
+        let method = plan.number_of(code, info.box_number, info.procedure);
         let frame = entry(alloc, code, method, List::new(alloc))?;
         Ok(Activation {
             box_number: info.box_number,
@@ -122,13 +129,28 @@ impl Activation {
         requires { code.now ≡ compiled program.now }
         ensures { Turns result (turned program.now self.old end) self.new }
     {
+        let plan = Plan::of(alloc, program)?;
+        self.resume_by(alloc, code, &plan, end)
+    }
+
+    /// Goes on after a step on the frame that ended so, by the plan of a program.
+    pub fn resume_by(
+        &mut self,
+        alloc: Global,
+        code: &Code,
+        plan: &Plan,
+        end: End,
+    ) -> Result<Turn, Memory>
+        ensures { (p : Program) → AreMadeFrom p code.now plan.now →
+            Turns result (turned p self.old end) self.new }
+    {
         match end {
             End::Call {
                 target,
                 method,
                 args,
                 partial,
-            } => self.call(alloc, code, program, target, method, args, partial),
+            } => self.call(alloc, code, plan, target, method, args, partial),
             End::Returned(found) => self.go_on(found),
             End::RejectedPlain => {
                 self.plain = true;
@@ -145,17 +167,17 @@ impl Activation {
         &mut self,
         alloc: Global,
         code: &Code,
-        program: &Program,
+        plan: &Plan,
         given: u32,
         method: u32,
         args: List<Value>,
         partial: bool,
     ) -> Result<Turn, Memory>
-        requires { code.now ≡ compiled program.now }
-        ensures { Turns result (Next (calling program.now self.old given method args partial)) self.new }
+        ensures { (p : Program) → AreMadeFrom p code.now plan.now →
+            Turns result (Next (calling p self.old given method args partial)) self.new }
     {
-        let box_number = target(program, self.box_number, given);
-        let number = number_of(code, program, box_number, method);
+        let box_number = plan.target(self.box_number, given);
+        let number = plan.number_of(code, box_number, method);
         let callee = entry(alloc, code, number, args)?;
         let frame = mem::replace(&mut self.frame, callee);
         self.waiting.push(Waiting {

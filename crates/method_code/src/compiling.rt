@@ -1,3 +1,5 @@
+//! Programs compiled to code.
+
 ghost use Rattle.std.specs.Prelude.{◌≡◌, ◌≤◌, [], ◌∷◌, ◌++◌, length, map, All, IfOk, OnOk};
 ghost use Rattle.std.specs.List.{flat_map};
 ghost use Rattle.method_code.specs.declared.instruction.Instruction.TheVariants.{Reject as Rejects};
@@ -71,7 +73,7 @@ fn head_of(alloc: Global, alternative: &Alternative<Ref>, start: u32) -> Result<
     Ok(Head { cond, early, start })
 }
 
-/// The code of alternatives, behind a rejection, and how each of them begins.
+/// The code of alternatives, after a rejection, and how each of them begins.
 fn emit_choice(
     alloc: Global,
     alternatives: &[Alternative<Ref>],

@@ -1,7 +1,9 @@
+//! Equal values and expressions of their own.
+
 ghost use Rattle.std.specs.Prelude.{◌≡◌, IfOk};
 
 use seuss_base::{Box, List, Memory};
-use seuss_program::{Expr, Node, Ref};
+use seuss_program::{Expr, Node, Ref, Value};
 use std::alloc::Global;
 
 /// An equal expression of its own.
@@ -56,6 +58,17 @@ pub fn copy_args(alloc: Global, args: &[Expr<Ref>]) -> Result<List<Expr<Ref>>, M
     let mut copied = List::new(alloc);
     for arg in args {
         copied.push(copy_expr(alloc, arg)?)?;
+    }
+    Ok(copied)
+}
+
+/// Equal values of their own.
+pub fn copy_values(alloc: Global, values: &[Value]) -> Result<List<Value>, Memory>
+    ensures { IfOk result (λ copied. copied ≡ values.now) }
+{
+    let mut copied = List::new(alloc);
+    for value in values {
+        copied.push(value.copy(alloc)?)?;
     }
     Ok(copied)
 }

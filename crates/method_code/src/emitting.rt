@@ -1,3 +1,5 @@
+//! The code of statements.
+
 ghost use Rattle.std.specs.Prelude.{◌≡◌, ◌≤◌, [], ◌∷◌, ◌++◌, length, IfOk, OnOk};
 ghost use Rattle.std.specs.List.{flat_map};
 ghost use Rattle.method_code.specs.Codes.{given_number as given_of, call_code, if_code as if_of};
@@ -25,7 +27,7 @@ pub fn count(code: &List<Instruction>) -> Result<u32, Memory>
     Ok(many as u32)
 }
 
-/// Puts instructions behind others.
+/// Puts instructions after others.
 pub fn append(code: &mut List<Instruction>, part: List<Instruction>) -> Result<(), Memory>
     ensures { OnOk result (code.new ≡ code.old ++ part) }
 {

@@ -1,3 +1,5 @@
+//! The frames in which procedures begin.
+
 ghost use Rattle.std.specs.Prelude.{◌≡◌, ◌++◌, IfOk, OnOk};
 ghost use Rattle.method_code.specs.Steps.{entry as entry_of};
 
@@ -18,7 +20,7 @@ fn add_copies(alloc: Global, values: &[Value], slots: &mut List<Value>) -> Resul
 }
 
 /// The frame in which a method begins, by its number over all cats: at place 0, with the arguments as
-/// its first slots, and the result and the locals at 0 or false behind them.
+/// its first slots, and the result and the locals at 0 or false after them.
 pub fn entry(alloc: Global, code: &Code, method: u32, args: List<Value>) -> Result<Frame, Memory>
     ensures { IfOk result (λ frame. frame ≡ entry_of code.now method args) }
 {

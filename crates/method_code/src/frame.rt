@@ -1,5 +1,11 @@
-use seuss_base::{List, PassEnd, Trap};
+//! Where a procedure stands between two steps, and how a step ends.
+
+ghost use Rattle.std.specs.Prelude.{◌≡◌, IfOk};
+
+use crate::copies::copy_values;
+use seuss_base::{List, Memory, PassEnd, Trap};
 use seuss_program::Value;
+use std::alloc::Global;
 
 /// Where a procedure stands between two steps. Place 0 is the entry, and place i + 1 is instruction i.
 /// Methods are numbered over all cats in order.
@@ -35,4 +41,44 @@ pub enum End {
 pub enum Turn {
     Next(u32),
     Over(PassEnd),
+}
+
+impl Frame {
+    /// An equal frame of its own.
+    pub fn copy(&self, alloc: Global) -> Result<Frame, Memory>
+        ensures { IfOk result (λ frame. frame ≡ self.now) }
+    {
+        let slots = copy_values(alloc, self.slots.as_slice())?;
+        Ok(Frame {
+            method: self.method,
+            place: self.place,
+            slots,
+        })
+    }
+}
+
+impl End {
+    /// An equal end of its own.
+    pub fn copy(&self, alloc: Global) -> Result<End, Memory>
+        ensures { IfOk result (λ end. end ≡ self.now) }
+    {
+        match self {
+            End::Call {
+                target,
+                method,
+                args,
+                partial,
+            } => Ok(End::Call {
+                target: *target,
+                method: *method,
+                args: copy_values(alloc, args.as_slice())?,
+                partial: *partial,
+            }),
+            End::Returned(found) => Ok(End::Returned(*found)),
+            End::RejectedPlain => Ok(End::RejectedPlain),
+            End::Rejected => Ok(End::Rejected),
+            End::Trapped(trap) => Ok(End::Trapped(*trap)),
+            End::Spent => Ok(End::Spent),
+        }
+    }
 }

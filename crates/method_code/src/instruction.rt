@@ -1,3 +1,5 @@
+//! The instructions of compiled code.
+
 use seuss_base::{List, Trap};
 use seuss_program::{Expr, Ref, Value};
 
@@ -10,7 +12,7 @@ pub struct CallCode {
     pub args: List<Expr<Ref>>,
 }
 
-/// One instruction of a procedure. Jumps count instructions, from the one behind the jump on.
+/// One instruction of a procedure. Jumps count instructions, from the one after the jump on.
 #[derive(Debug, Drop)]
 pub enum Instruction {
     /// A name takes the value of an expression.

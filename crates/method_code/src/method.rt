@@ -1,3 +1,5 @@
+//! The code of one procedure.
+
 use crate::instruction::{CallCode, Instruction};
 use seuss_base::List;
 use seuss_program::{Expr, Ref, Value};
@@ -6,7 +8,7 @@ use seuss_program::{Expr, Ref, Value};
 #[derive(Debug, Drop)]
 pub struct Method {
     pub entry: Entry,
-    /// What stands in the slots behind the arguments at the entry.
+    /// What stands in the slots after the arguments at the entry.
     pub locals: List<Value>,
     /// The slot of the result, where there is one.
     pub result: Option<u64>,
@@ -24,7 +26,7 @@ pub enum Entry {
 }
 
 /// How an alternative begins: its precondition, the call of its preprocedure, and the instruction at
-/// which it goes on. Behind a preprocedure that is the one that takes its result.
+/// which it goes on. After a preprocedure that is the one that takes its result.
 #[derive(Debug, Drop)]
 pub struct Head {
     pub cond: Expr<Ref>,

@@ -1,21 +1,33 @@
-ghost use Rattle.std.specs.Prelude.{◌≡◌, ◌<◌, ◌^◌, length, slice_index_or};
-ghost use Rattle.seuss_program.specs.Programs.{target_of};
-ghost use Rattle.seuss_program.specs.declared.tree.Ref.TheVariants.{Given as GivenRef};
+//! The numbers of procedures over all cats.
+
+ghost use Rattle.std.specs.Prelude.{◌≡◌, ◌+◌, ◌≤◌, ◌^◌, length, IfOk, OnErr};
 ghost use Rattle.method_code.specs.Codes.{cats_code, compiled, number_of as number_for};
 
 use crate::code::Code;
-use seuss_program::{BoxInfo, Cat, Program, Ref};
+use seuss_base::{List, Memory};
+use seuss_program::{Cat, Program, Ref};
 
-/// How many procedures cats have together.
-fn procedures_in(cats: &[Cat<Ref>]) -> u64
-    requires { length (cats_code cats.now) < 2 ^ 32 }
-    ensures { result ≡ length (cats_code cats.now) }
+/// A number of procedures and a further one. `Memory` comes where the sum is no number of 32 bits.
+pub fn add(many: u32, further: u64) -> Result<u32, Memory>
+    ensures ok { IfOk result (λ sum. sum ≡ many + further) }
+    ensures err { OnErr result (2 ^ 32 ≤ many + further) }
+{
+    if further > (u32::MAX - many) as u64 {
+        return Err(Memory);
+    }
+    Ok(many + further as u32)
+}
+
+/// How many procedures cats have together. `Memory` comes where that is no number of 32 bits.
+pub fn procedures_in(cats: &[Cat<Ref>]) -> Result<u32, Memory>
+    ensures ok { IfOk result (λ many. many ≡ length (cats_code cats.now)) }
+    ensures err { OnErr result (2 ^ 32 ≤ length (cats_code cats.now)) }
 {
     let mut many = 0;
     for cat in cats {
-        many += cat.procs.len();
+        many = add(many, cat.procs.len())?;
     }
-    many
+    Ok(many)
 }
 
 /// The number over all cats of a procedure of a box. What isn't there has a number past the last one.
@@ -34,23 +46,8 @@ pub fn number_of(code: &Code, program: &Program, box_number: u32, procedure: u32
         return past;
     }
     let cats = program.cats.as_slice();
-    let before = procedures_in(&cats[..info.cat as usize]);
-    (before + procedure as u64) as u32
-}
-
-/// One of the boxes that a box is given.
-fn given_box(info: &BoxInfo, given: u32) -> u32
-    ensures { result ≡ slice_index_or info.now.given given 0 }
-{
-    info.given.get(given as u64).copied().unwrap_or(0)
-}
-
-/// The box that the number of a given box stands for, as a box sees it.
-pub fn target(program: &Program, box_number: u32, given: u32) -> u32
-    ensures { result ≡ target_of program.now box_number (GivenRef given) }
-{
-    match program.boxes.get(box_number as u64) {
-        Some(info) => given_box(info, given),
-        None => 0,
+    match procedures_in(&cats[..info.cat as usize]) {
+        Ok(before) => before.saturating_add(procedure),
+        Err(_) => past,
     }
 }

@@ -1,8 +1,12 @@
+//! Attempts by method steps with nothing between them.
+
 ghost use Rattle.std.specs.Prelude.{◌≡◌, ◌≤◌, ◌<◌, length, slice_get, slice_set, IfOk, OnOk};
 ghost use Rattle.seuss_program.specs.Programs.{vars_of};
 ghost use Rattle.seuss_program.specs.Attempts.{action_attempt};
 ghost use Rattle.seuss_program.specs.Keeping.{Keeps};
+ghost use Rattle.seuss_program.specs.declared.program.Program.{Program};
 ghost use Rattle.method_code.specs.Codes.{compiled};
+ghost use Rattle.method_code.specs.Plans.{MayAttempt};
 ghost use Rattle.method_code.specs.Steps.{step as step_of};
 ghost use Rattle.method_code.specs.Chains.{outcome_of};
 ghost use Rattle.method_code.specs.Answers.{StepsOn};
@@ -11,6 +15,7 @@ use crate::activation::Activation;
 use crate::code::Code;
 use crate::frame::{End, Turn};
 use crate::laws::chain_is_attempt;
+use crate::plan::Plan;
 use crate::stepping::step;
 use seuss_base::{List, Memory, Outcome, PassEnd};
 use seuss_program::{Program, State, Vars};
@@ -100,12 +105,30 @@ pub fn attempt_by_steps(
         (state.new ≡ (action_attempt program.now (slice_get program.now.actions action) state.old
         budget).state) }
 {
+    let plan = Plan::of(alloc, program)?;
+    attempt_by_plan(alloc, code, &plan, action, state, budget)
+}
+
+/// Attempts an action by method steps, by the plan of a program.
+pub fn attempt_by_plan(
+    alloc: Global,
+    code: &Code,
+    plan: &Plan,
+    action: u32,
+    state: &mut State,
+    budget: u64,
+) -> Result<Outcome, Memory>
+    ensures outcome { (p : Program) → MayAttempt p code.now plan.now action budget → IfOk result (λ outcome.
+        outcome ≡ (action_attempt p (slice_get p.actions action) state.old budget).outcome) }
+    ensures state { (p : Program) → MayAttempt p code.now plan.now action budget → OnOk result
+        (state.new ≡ (action_attempt p (slice_get p.actions action) state.old budget).state) }
+{
     chain_is_attempt();
-    let mut pass = Activation::begin(alloc, code, program, action)?;
+    let mut pass = Activation::begin_by(alloc, code, plan, action)?;
     let mut left = budget;
     for made in 0..MOST_STEPS {
         let end = step_on(alloc, code, &mut pass, state, &mut left)?;
-        if let Turn::Over(end) = pass.resume(alloc, code, program, end)? {
+        if let Turn::Over(end) = pass.resume_by(alloc, code, plan, end)? {
             return Ok(outcome(end));
         }
     }

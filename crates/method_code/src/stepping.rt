@@ -1,3 +1,5 @@
+//! Method steps.
+
 ghost use Rattle.std.specs.Prelude.{◌≡◌, ◌≤◌, ◌<◌, ℕ, pos, slice_index_or, All, []};
 ghost use Rattle.seuss_program.specs.Values.{int_of};
 ghost use Rattle.seuss_program.specs.declared.state.Value.TheVariants.{Int};

@@ -1,3 +1,5 @@
+//! The values of expressions, and places that take them.
+
 ghost use Rattle.std.specs.Prelude.{◌≡◌, slice_set, IfOk};
 ghost use Rattle.seuss_program.specs.Values.{value};
 ghost use Rattle.seuss_program.specs.Bodies.{arguments as arguments_of};

@@ -48,10 +48,11 @@ same_parts a b box number = ap (λ n. made n a.procedure) box ∙ ap (λ n. made
     made : ℕ → ℕ → ActionInfo
     made box number = record { box_number = box; procedure = number }
 
--- one procedure of one box isn't behind another
+-- one procedure of one box doesn't come after another
 abbrev Comes : ℕ → ℕ → ℕ → ℕ → Type 0
 Comes box number other_box other = (box < other_box) ⊎ ((box ≡ other_box) × (number ≤ other))
 
+-- what comes after something comes after all that comes before it
 comes_on : (a i b j c k : ℕ) → Comes a i b j → Comes b j c k → Comes a i c k
 comes_on a i b j c k (inl lt) (inl more) = inl (omega arith)
 comes_on a i b j c k (inl lt) (inr more) = inl (omega arith)
@@ -93,11 +94,11 @@ module _ (Is : ActionInfo → Type 0) where
       one_more (inl lt) = inl lt
       one_more (inr same) = inr (same.0, omega arith)
 
-  -- the first action isn't found behind itself
-  not_behind : (i : ℕ) (a : ActionInfo) (xs : List ActionInfo) →
+  -- the first action isn't found again after itself
+  not_later : (i : ℕ) (a : ActionInfo) (xs : List ActionInfo) →
       RiseFrom Is a.box_number (a.procedure + 1) xs →
       slice_get xs i ≡ Some a → ⊥
-  not_behind i a xs rise there = by (found_is a.box_number (a.procedure + 1) i a xs rise there).1
+  not_later i a xs rise there = by (found_is a.box_number (a.procedure + 1) i a xs rise there).1
     where
       by : Comes a.box_number (a.procedure + 1) a.box_number a.procedure → ⊥
       by (inl lt) = omega arith
@@ -109,9 +110,9 @@ module _ (Is : ActionInfo → Type 0) where
   one_number box number i j a [] rise there here = cc
   one_number box number zero zero a (b ∷ xs) rise there here = refl
   one_number box number zero (suc j) a (b ∷ xs) rise there here =
-      absurd (not_behind j b xs rise.2 (here ∙ sym there))
+      absurd (not_later j b xs rise.2 (here ∙ sym there))
   one_number box number (suc i) zero a (b ∷ xs) rise there here =
-      absurd (not_behind i b xs rise.2 (there ∙ sym here))
+      absurd (not_later i b xs rise.2 (there ∙ sym here))
   one_number box number (suc i) (suc j) a (b ∷ xs) rise there here =
       ap suc (one_number b.box_number (b.procedure + 1) i j a xs rise.2 there here)
 
@@ -128,9 +129,9 @@ module _ (Is : ActionInfo → Type 0) where
       by : (b : Bool) → RiseFrom Is box (first + 1) (actions_among box (first + 1) qs ++ rest) →
           RiseFrom Is box first ((if b then record { box_number = box; procedure = first }
           ∷ actions_among box (first + 1) qs else actions_among box (first + 1) qs) ++ rest)
-      by true behind = (inr (refl, omega arith), each 0 first q refl (omega arith), behind)
-      by false behind = rise_sooner box first box (first + 1) (actions_among box (first + 1) qs ++ rest)
-          (inr (refl, omega arith)) behind
+      by true later = (inr (refl, omega arith), each 0 first q refl (omega arith), later)
+      by false later = rise_sooner box first box (first + 1) (actions_among box (first + 1) qs ++ rest)
+          (inr (refl, omega arith)) later
 
 -- an action of a program: its box, the cat of the box, and its procedure
 record IsListed (p : Program) (a : ActionInfo) : Type 0 where
@@ -179,6 +180,7 @@ module _ (p : Program) where
           slice_get (procedures_in (slice_get p.cats b.cat)) number ≡ Some q
       moved place number q there at = let same : number ≡ place = omega arith in rw same there
 
+  -- the actions of a program rise by box and procedure, and each is listed
   actions_rise : Keeps p → RiseFrom (IsListed p) 0 0 p.actions
   actions_rise keeps =
       let each : (place number : ℕ) (b : BoxInfo) → slice_get p.boxes place ≡ Some b → 0 + place ≡ number →
@@ -186,11 +188,12 @@ module _ (p : Program) where
       λ place number b there at. let same : number ≡ place = omega arith in rw same there in
       subst (λ xs. RiseFrom (IsListed p) 0 0 xs) (sym keeps.actions) (boxes_rise 0 p.boxes each)
 
-  -- the names of a listed action
+  -- the name of the box of a listed action
   box_text : (a : ActionInfo) → (is : IsListed p a) →
       box_name (slice_get p.boxes a.box_number) ≡ is.info.name.text
   box_text a is = rw is.box_there refl
 
+  -- the name of the procedure of a listed action
   proc_text : (a : ActionInfo) → (is : IsListed p a) →
       proc_name (procedure_of p a.box_number a.procedure) ≡ is.procedure.name.text
   proc_text a is = rw (is.box_there, is.cat_there, is.procedure_there) refl

@@ -21,11 +21,12 @@ module _ {X : Type 0} (key : X → ℕ) where
   abbrev pub AgreeAt : List X → List X → ℕ → Type 0
   AgreeAt xs ys k = filter (λ x. key x == k) xs ≡ filter (λ x. key x == k) ys
 
-  -- the first item is one of those with its key, and none of those with another
+  -- the first item is one of those with its key
   with_first : (k : ℕ) (x : X) (xs : List X) → (key x == k) ≡ true →
       filter (λ z. key z == k) (x ∷ xs) ≡ x ∷ filter (λ z. key z == k) xs
   with_first k x xs hit = rw hit refl
 
+  -- the first item is none of those with another key
   without_first : (k : ℕ) (x : X) (xs : List X) → (key x == k) ≡ false →
       filter (λ z. key z == k) (x ∷ xs) ≡ filter (λ z. key z == k) xs
   without_first k x xs miss = rw miss refl
@@ -45,10 +46,11 @@ module _ {X : Type 0} (key : X → ℕ) where
       record { rising = rising.rising; low = low_first key 0 y ys rising (key x + 1) (omega arith) } in
       not_empty (key x) x xs refl (agree ∙ filter_below key (key x) (y ∷ ys) late)
 
-  -- where they begin with the same key, the rest of them agrees
+  -- equal lists have the same first item and the same rest
   parts_agree : (x y : X) (us vs : List X) → x ∷ us ≡ y ∷ vs → (x ≡ y) × (us ≡ vs)
   parts_agree x y us vs e = (cc, cc)
 
+  -- the rests of lists that begin with the same key agree where the lists do
   rests_agree : (k : ℕ) (x y : X) (xs ys : List X) → key x ≡ key y → AgreeAt (x ∷ xs) (y ∷ ys) k →
       AgreeAt xs ys k
   rests_agree k x y xs ys same agree = elim (eqb_tells (key x) k) [
@@ -61,6 +63,7 @@ module _ {X : Type 0} (key : X → ℕ) where
         sym (without_first k x xs miss.0) ∙ (agree ∙ without_first k y ys other)
   ]
 
+  -- lists that agree and begin with the same key begin with the same item
   firsts_agree : (x y : X) (xs ys : List X) → key x ≡ key y → AgreeAt (x ∷ xs) (y ∷ ys) (key x) → x ≡ y
   firsts_agree x y xs ys same agree =
       let k = key x in

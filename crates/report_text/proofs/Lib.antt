@@ -1,3 +1,4 @@
+-- The lemmas on what is printed.
 pub mod ActionNames
 pub mod AgreeingLists
 pub mod LineLemmas
@@ -5,6 +6,7 @@ pub mod OrderLemmas
 pub mod MatrixLemmas
 pub mod RisingLemmas
 pub mod RoundLemmas
+pub mod SlotLemmas
 pub mod TightLemmas
 pub mod WordLemmas
 pub mod WritingLemmas

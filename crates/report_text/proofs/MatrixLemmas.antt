@@ -46,7 +46,7 @@ lines_split (x ∷ xs) ys (level ∷ ls) many =
     ∙ sym (append_assoc (certificate_line x.0 x.1 level) (certificate_lines xs (take (length xs) ls))
     (certificate_lines ys (drop (length xs) ls)))
 
--- the certificates from a cat on are its own and those behind it
+-- the certificates from a cat on are its own and those after it
 certificates_from : (cats : List (Cat Ref)) (at : ℕ) (c : Cat Ref) → at < length cats →
     c ≡ get_or cats at c →
     certificates (drop at cats) ≡ of_cat c c.semis ++ certificates (drop (at + 1) cats)
@@ -75,17 +75,17 @@ enough_levels cats at c rest text whole h within is =
     (length-map c.semis (λ (s : Semi Ref). (c, s)))
 
 -- the lines of a cat's certificates are written
-pub cat_written : (cats : List (Cat Ref)) (at : ℕ) (c : Cat Ref) (rest now behind : List Level)
+pub cat_written : (cats : List (Cat Ref)) (at : ℕ) (c : Cat Ref) (rest now later : List Level)
     (text after whole : List ℕ) → HasWritten cats at rest text whole → at < length cats →
     c ≡ get_or cats at c →
-    now ≡ take (length c.semis) rest → behind ≡ drop (length c.semis) rest →
-    after ≡ text ++ certificate_lines (of_cat c c.semis) now → HasWritten cats (at + 1) behind after whole
-cat_written cats at c rest now behind text after whole h within is front back lined =
+    now ≡ take (length c.semis) rest → later ≡ drop (length c.semis) rest →
+    after ≡ text ++ certificate_lines (of_cat c c.semis) now → HasWritten cats (at + 1) later after whole
+cat_written cats at c rest now later text after whole h within is front back lined =
     let more = enough_levels cats at c rest text whole h within is in
     let own : length (of_cat c c.semis) ≡ length c.semis = length-map c.semis (λ (s : Semi Ref). (c, s)) in
     let split : certificate_lines (certificates (drop at cats)) rest
     ≡ certificate_lines (of_cat c c.semis) now ++ certificate_lines (certificates (drop (at + 1) cats))
-    behind =
+    later =
     ap (λ xs. certificate_lines xs rest) (certificates_from cats at c within is)
     ∙ lines_split (of_cat c c.semis) (certificates (drop (at + 1) cats)) rest
     (more ∙ ap (λ n. n + length (certificates (drop (at + 1) cats))) (sym own))
@@ -93,11 +93,11 @@ cat_written cats at c rest now behind text after whole h within is front back li
     record {
       written = piece_written text (certificate_lines (of_cat c c.semis) now)
           (certificate_lines (certificates (drop at cats)) rest)
-          (certificate_lines (certificates (drop (at + 1) cats)) behind) after whole lined split h.written;
+          (certificate_lines (certificates (drop (at + 1) cats)) later) after whole lined split h.written;
       many = rw back (length-drop (length c.semis) rest ∙ omega (arith, more));
     }
 
--- one more piece behind those of the numbers so far
+-- one more piece after those of the numbers so far
 pub number_written : (f : ℕ → List ℕ) (n : ℕ) (start text after : List ℕ) →
     text ≡ start ++ flat_map f (range_with_len 0 n) → after ≡ text ++ f n →
     after ≡ start ++ flat_map f (range_with_len 0 (n + 1))

@@ -45,7 +45,7 @@ filter_below key k (x ∷ xs) h =
 take_one : {X : Type 0} (m : ℕ) (x : X) (xs : List X) → take (1 + m) (x ∷ xs) ≡ x ∷ take m xs
 take_one m x xs = let e : 1 + m ≡ suc m = omega arith in rw e refl
 
--- the items behind the front of a list with one more item
+-- the items after the front of a list with one more item
 drop_one : {X : Type 0} (m : ℕ) (x : X) (xs : List X) → drop (1 + m) (x ∷ xs) ≡ drop m xs
 drop_one m x xs = let e : 1 + m ≡ suc m = omega arith in rw e refl
 
@@ -60,7 +60,7 @@ filter_rising key k (x ∷ xs) h = elim (eqb_tells (key x) k) [
       (filter_below key k xs (rising_tail key (k + 1) x xs (rising_above key k x xs miss.1 h)))
 ]
 
--- behind the items of the least key all keys are greater
+-- after the items of the least key all keys are greater
 pub rising_rest : {X : Type 0} (key : X → ℕ) (k : ℕ) (xs : List X) → IsRisingFrom key k xs →
     IsRisingFrom key (k + 1) (drop (prefix_len (λ x. key x == k) xs) xs)
 rising_rest key k [] h = record { rising = h.rising; low = λ i d lt. absurd (omega arith) }
@@ -70,13 +70,13 @@ rising_rest key k (x ∷ xs) h = elim (eqb_tells (key x) k) [
   | inr miss ↦ rw miss.0 (rising_above key k x xs miss.1 h)
 ]
 
--- the items of another key stand behind those of this key at the front
-pub filter_behind : {X : Type 0} (key : X → ℕ) (k j : ℕ) (xs : List X) → j ≢ k →
+-- the items of another key stand after those of this key at the front
+pub filter_later : {X : Type 0} (key : X → ℕ) (k j : ℕ) (xs : List X) → j ≢ k →
     filter (λ x. key x == j) xs ≡ filter (λ x. key x == j) (drop (prefix_len (λ x. key x == k) xs) xs)
-filter_behind key k j [] ne = refl
-filter_behind key k j (x ∷ xs) ne = elim (eqb_tells (key x) k) [
+filter_later key k j [] ne = refl
+filter_later key k j (x ∷ xs) ne = elim (eqb_tells (key x) k) [
   | inl hit ↦ let other : (key x == j) ≡ false = ne_eqb (key x) j (omega arith) in
-      rw (hit.0, drop_one (prefix_len (λ x. key x == k) xs) x xs, other) (filter_behind key k j xs ne)
+      rw (hit.0, drop_one (prefix_len (λ x. key x == k) xs) x xs, other) (filter_later key k j xs ne)
   | inr miss ↦ rw miss.0 refl
 ]
 
@@ -98,10 +98,10 @@ pub filter_rest : {X : Type 0} (key : X → ℕ) (k : ℕ) (xs rest : List X) �
     filter (λ x. key x == k) xs ≡ take (prefix_len (λ x. key x == k) rest) rest
 filter_rest key k xs rest h = h.same k (omega arith) ∙ filter_rising key k rest h.ahead
 
--- the rest behind them is the rest for the key after
+-- the rest after them is the rest for the next key
 pub rest_next : {X : Type 0} (key : X → ℕ) (k : ℕ) (xs rest : List X) → IsRest key k xs rest →
     IsRest key (k + 1) xs (drop (prefix_len (λ x. key x == k) rest) rest)
 rest_next key k xs rest h = record {
   ahead = rising_rest key k rest h.ahead;
-  same = λ j le. h.same j (omega arith) ∙ filter_behind key k j rest (omega arith);
+  same = λ j le. h.same j (omega arith) ∙ filter_later key k j rest (omega arith);
 }

@@ -1,50 +1,71 @@
--- Words of names, and what stands behind them.
-use Rattle.std.proofs.Common.{◌≡◌, ℕ, ◌==◌, Bool, true, false, ◌||◌, if◌then◌else◌, List, [], ◌∷◌, ◌++◌}
-use Rattle.std.proofs.Common.{refl, sym, ◌∙◌, ap}
+-- Words of names, and what stands after them.
+use Rattle.std.proofs.Common.{◌≡◌, ◌≢◌, ℕ, ◌==◌, Bool, true, false, ◌||◌, List, [], ◌∷◌}
+use Rattle.std.proofs.Common.{if◌then◌else◌, ◌++◌, All, refl, sym, ◌∙◌, ap}
 use Rattle.std.specs.List.{list_all}
-use Rattle.std.specs.Char.{is_ascii_alphabetic}
-use Rattle.std.specs.Int.{is_in_range}
-use Rattle.std.proofs.lemmas.Bool.{and_parts, and_from}
+use Rattle.std.specs.Char.{is_ascii_alphanumeric}
+use Rattle.std.proofs.lemmas.Bool.{and_parts, ne_eqb}
 use Rattle.std.proofs.lemmas.List.{append_cancel_right}
-use Rattle.report_text.specs.Names.{is_name_byte, is_name_text}
+use Rattle.std.proofs.lemmas.List.Elements.{All-nil, All-cons, All-head, All-tail}
+use Rattle.seuss_program.specs.declared.tree.Name.{Name}
+use Rattle.report_text.specs.Names.{ends_name, IsName}
 
--- the bytes of a name
+-- no byte of a word ends a name
 abbrev pub IsWord : List ℕ → Type 0
-IsWord word = list_all is_name_byte word ≡ true
+IsWord word = All (λ (b : ℕ). ends_name b ≡ false) word
 
--- what is in one of two classes is in one of four
-one_of_four : (x low high y : Bool) → (low || high) ≡ true → (((x || low) || high) || y) ≡ true
-one_of_four true low high y h = refl
-one_of_four false true high y h = refl
-one_of_four false false true y h = refl
-one_of_four false false false y h = cc
+-- no bytes are a word
+pub no_bytes : IsWord []
+no_bytes = All-nil (λ (b : ℕ). ends_name b ≡ false)
 
--- a name is a word
-pub name_is_word : (text : List ℕ) → is_name_text text ≡ true → IsWord text
-name_is_word [] h = refl
-name_is_word (b ∷ bs) h =
-    let parts = and_parts (is_ascii_alphabetic b) (list_all is_name_byte bs) h in
-    let letter : is_name_byte b ≡ true =
-    one_of_four (is_in_range 48 57 b) (is_in_range 65 90 b) (is_in_range 97 122 b) (b == 95) parts.0 in
-    and_from (is_name_byte b) (list_all is_name_byte bs) letter parts.1
+-- a byte that passes a test isn't one that fails it
+other_byte : (test : ℕ → Bool) (b c : ℕ) → test b ≡ true → test c ≡ false → (b == c) ≡ false
+other_byte test b c is not = ne_eqb b c (λ e. apart (sym is ∙ (ap test e ∙ not)))
+  where
+    apart : true ≡ false → ⊥
+    apart e = cc
 
--- what stands behind the word at the front
-abbrev pub behind : List ℕ → List ℕ
-behind [] = []
-behind (b ∷ bs) = if is_name_byte b then behind bs else b ∷ bs
+-- letters, digits and `_`
+abbrev spells : ℕ → Bool
+spells b = is_ascii_alphanumeric b || b == 95
 
--- a word ends at the first byte that stands in no name
-pub behind_word : (word : List ℕ) (stop : ℕ) (rest : List ℕ) → IsWord word → is_name_byte stop ≡ false →
-    behind (word ++ stop ∷ rest) ≡ stop ∷ rest
-behind_word [] stop rest word other = rw other refl
-behind_word (b ∷ bs) stop rest word other =
-    let parts = and_parts (is_name_byte b) (list_all is_name_byte bs) word in
-    rw parts.0 (behind_word bs stop rest parts.1 other)
+-- letters, digits and `_` end no name
+ends_none : (b : ℕ) → spells b ≡ true → ends_name b ≡ false
+ends_none b is =
+    rw (
+      other_byte spells b 10 is refl,
+      other_byte spells b 32 is refl,
+      other_byte spells b 46 is refl,
+      other_byte spells b 35 is refl,
+    ) refl
 
--- so equal texts begin with the same word
+-- letters, digits and `_` are a word
+spelled_word : (text : List ℕ) → list_all spells text ≡ true → IsWord text
+spelled_word [] is = no_bytes
+spelled_word (b ∷ bs) is =
+    let parts = and_parts (spells b) (list_all spells bs) is in
+    All-cons (λ (c : ℕ). ends_name c ≡ false) b bs (ends_none b parts.0) (spelled_word bs parts.1)
+
+-- what is spelled with letters, digits and `_` is a name, where it has a byte
+pub spelled_name : (name : Name) → name.text ≢ [] → list_all spells name.text ≡ true → IsName name
+spelled_name name some is = record { some = some; whole = spelled_word name.text is }
+
+-- what stands after the word at the front
+abbrev pub after_word : List ℕ → List ℕ
+after_word [] = []
+after_word (b ∷ bs) = if ends_name b then b ∷ bs else after_word bs
+
+-- a word ends at the first byte that ends a name
+pub word_ends : (word : List ℕ) (stop : ℕ) (rest : List ℕ) → IsWord word → ends_name stop ≡ true →
+    after_word (word ++ stop ∷ rest) ≡ stop ∷ rest
+word_ends [] stop rest word ends = rw ends refl
+word_ends (b ∷ bs) stop rest word ends =
+    rw (All-head (λ (c : ℕ). ends_name c ≡ false) b bs word)
+    (word_ends bs stop rest (All-tail (λ (c : ℕ). ends_name c ≡ false) b bs word) ends)
+
+-- equal texts begin with the same word, and go on in the same way
 pub same_words : (u v : List ℕ) (c d : ℕ) (r s : List ℕ) → IsWord u → IsWord v →
-    is_name_byte c ≡ false → is_name_byte d ≡ false → u ++ c ∷ r ≡ v ++ d ∷ s → (u ≡ v) × (c ∷ r ≡ d ∷ s)
+    ends_name c ≡ true → ends_name d ≡ true → u ++ c ∷ r ≡ v ++ d ∷ s → (u ≡ v) × (c ∷ r ≡ d ∷ s)
 same_words u v c d r s first second stop end e =
     let rest : c ∷ r ≡ d ∷ s =
-    sym (behind_word u c r first stop) ∙ (ap behind e ∙ behind_word v d s second end) in
+    sym (word_ends u c r first stop) ∙ (ap after_word e ∙ word_ends v d s second end) in
     (append_cancel_right u v (c ∷ r) (e ∙ ap (λ t. v ++ t) (sym rest)), rest)

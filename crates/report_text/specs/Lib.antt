@@ -1,3 +1,4 @@
+-- The definitions of what is printed.
 pub mod CheckTexts
 pub mod Names
 pub mod MatrixTexts

@@ -1,7 +1,5 @@
 -- The names of a program. By them a report tells its boxes apart, and the procedures of each box.
-use Rattle.std.specs.Prelude.{◌≢◌, ℕ, Bool, false, ◌==◌, ◌||◌, ◌&&◌, IsTrue, List, [], ◌∷◌, All, AllPairs}
-use Rattle.std.specs.List.{list_all}
-use Rattle.std.specs.Char.{is_ascii_alphabetic, is_ascii_alphanumeric}
+use Rattle.std.specs.Prelude.{◌≡◌, ◌≢◌, ℕ, Bool, false, ◌==◌, ◌||◌, [], All, AllPairs}
 use Rattle.seuss_program.specs.declared.tree.Name.{Name}
 use Rattle.seuss_program.specs.declared.tree.Ref.{Ref}
 use Rattle.seuss_program.specs.declared.tree.Var.{Var}
@@ -10,17 +8,14 @@ use Rattle.seuss_program.specs.declared.tree.Cat.{Cat}
 use Rattle.seuss_program.specs.declared.program.BoxInfo.{BoxInfo}
 use Rattle.seuss_program.specs.declared.program.Program.{Program}
 
--- letters, digits and `_`
-abbrev pub is_name_byte : ℕ → Bool
-is_name_byte b = is_ascii_alphanumeric b || b == 95
+-- the bytes at which a name ends in a report: line feed, space, point and `#`
+abbrev pub ends_name : ℕ → Bool
+ends_name b = b == 10 || (b == 32 || (b == 46 || b == 35))
 
--- a letter, and behind it letters, digits and `_`
-abbrev pub is_name_text : List ℕ → Bool
-is_name_text [] = false
-is_name_text (b ∷ bs) = is_ascii_alphabetic b && list_all is_name_byte bs
-
-abbrev pub IsName : Name → Type 0
-IsName name = IsTrue (is_name_text name.text)
+-- A name that a report tells: it isn't empty, and ends at none of its bytes.
+pub record IsName (name : Name) : Type 0 where
+  pub some : name.text ≢ []
+  pub whole : All (λ (b : ℕ). ends_name b ≡ false) name.text
 
 -- two names with different texts, on whatever lines they stand
 abbrev pub DiffersFrom : Name → Name → Type 0

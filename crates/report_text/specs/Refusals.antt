@@ -49,7 +49,7 @@ line_of (R.CertificateUnclear n) = Some n
 line_of R.Attempts = None
 line_of R.Action = None
 
--- the place behind the word, where there is one
+-- the place after the word, where there is one
 abbrev pub place_text : Option ℕ → List ℕ
 place_text None = []
 place_text (Some n) = codes " line " ++ decimal n

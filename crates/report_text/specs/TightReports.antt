@@ -1,30 +1,26 @@
 -- The report of actions that are attempted one after the other, byte for byte.
 use Rattle.std.specs.Prelude.{ℕ, List, [], ◌∷◌, ◌++◌}
-use Rattle.std.specs.List.{flat_map}
 use Rattle.seuss_base.specs.declared.outcome.Outcome.{Outcome}
 use Rattle.seuss_program.specs.declared.program.Program.{Program}
 use Rattle.seuss_program.specs.declared.state.State.{State}
-use Rattle.seuss_program.specs.declared.order.Placed.{Placed}
 use Rattle.seuss_program.specs.declared.order.LastLine.{LastLine}
-use Rattle.seuss_program.specs.Reports.{attempt_line, last_line, end_text}
+use Rattle.seuss_program.specs.declared.order.LastLine.TheVariants as L
+use Rattle.seuss_program.specs.Reports.{name_of_action, outcome_line, last_line_of, state_lines, ending_line}
 
--- an attempt of an action; its number isn't printed
-abbrev pub attempted : ℕ → Outcome → Placed
-attempted action outcome = record { attempt = 0; action = action; outcome = outcome }
-
--- the attempts of these actions, each with its outcome
-abbrev pub attempts_of : List ℕ → List Outcome → List Placed
-attempts_of [] outcomes = []
-attempts_of (action ∷ actions) [] = []
-attempts_of (action ∷ actions) (outcome ∷ outcomes) =
-    attempted action outcome ∷ attempts_of actions outcomes
+-- the lines of these actions, each with its outcome
+abbrev pub tight_lines : Program → List ℕ → List Outcome → List ℕ
+tight_lines p [] outcomes = []
+tight_lines p (action ∷ actions) [] = []
+tight_lines p (action ∷ actions) (outcome ∷ outcomes) =
+    outcome_line (name_of_action p action) outcome ++ tight_lines p actions outcomes
 
 -- how the attempts end, by the first one that trapped or was spent
 abbrev pub tight_end : List ℕ → List Outcome → LastLine
-tight_end actions outcomes = last_line (attempts_of actions outcomes)
+tight_end [] outcomes = L.Done
+tight_end (action ∷ actions) [] = L.Done
+tight_end (action ∷ actions) (outcome ∷ outcomes) = last_line_of outcome action (tight_end actions outcomes)
 
 -- A line for each attempt, the values of all variables, and how the attempts end.
 abbrev pub tight_report : Program → List ℕ → List Outcome → State → List ℕ
-tight_report p actions outcomes state =
-    flat_map (attempt_line p) (attempts_of actions outcomes)
-    ++ end_text p (tight_end actions outcomes) state
+tight_report p actions outcomes state = tight_lines p actions outcomes ++ state_lines p state
+    ++ ending_line (name_of_action p) (tight_end actions outcomes)

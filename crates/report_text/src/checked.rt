@@ -1,3 +1,5 @@
+//! The line of a program that is accepted.
+
 ghost use Rattle.std.specs.Prelude.{◌≡◌, IfOk};
 ghost use Rattle.report_text.specs.CheckTexts.{check_text as counts_of};
 
@@ -6,7 +8,7 @@ use seuss_base::{Memory, Text};
 use seuss_program::Program;
 use std::alloc::Global;
 
-/// How many cats are built in: they stand in front of those that a program declares.
+/// How many cats are built in: they stand before those that a program declares.
 const BUILT_IN: u64 = 2;
 
 /// The line of an accepted program: how many cats, boxes and actions it has. The built-in cats aren't

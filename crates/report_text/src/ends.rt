@@ -1,5 +1,8 @@
+//! The lines of a report after its rounds.
+
 ghost use Rattle.std.specs.Prelude.{◌≡◌, ◌++◌, slice_get, IfOk, OnOk};
-ghost use Rattle.seuss_program.specs.Reports.{box_lines, last_line_text, var_line, var_lines, vars_in};
+ghost use Rattle.seuss_program.specs.Reports.{box_lines, last_line_text, state_lines, var_line, var_lines};
+ghost use Rattle.seuss_program.specs.Reports.{vars_in};
 ghost use Rattle.seuss_program.specs.Reports.{end_text as end_of};
 
 use crate::names::push_action;
@@ -46,9 +49,8 @@ fn push_box(text: &mut Text, program: &Program, info: &BoxInfo, vars: &Vars) -> 
 }
 
 /// Puts the lines of all boxes at the end.
-fn push_boxes(text: &mut Text, program: &Program, state: &State) -> Result<(), Memory>
-    ensures { OnOk result (text.new ≡ text.old
-        ++ box_lines program.now.cats program.now.boxes state.now.boxes) }
+pub fn push_state(text: &mut Text, program: &Program, state: &State) -> Result<(), Memory>
+    ensures { OnOk result (text.new ≡ text.old ++ state_lines program.now state.now) }
 {
     for (info, vars) in program.boxes.as_slice().iter().zip(state.boxes.as_slice()) {
         push_box(text, program, info, vars)?;
@@ -57,7 +59,7 @@ fn push_boxes(text: &mut Text, program: &Program, state: &State) -> Result<(), M
 }
 
 /// Puts the last line of a report at the end.
-fn push_last(text: &mut Text, program: &Program, last: &LastLine) -> Result<(), Memory>
+pub fn push_last(text: &mut Text, program: &Program, last: &LastLine) -> Result<(), Memory>
     ensures { OnOk result (text.new ≡ text.old ++ last_line_text program.now last.now) }
 {
     match *last {
@@ -77,7 +79,7 @@ fn push_last(text: &mut Text, program: &Program, last: &LastLine) -> Result<(), 
     Ok(())
 }
 
-/// The lines of a report behind its rounds: the values of all variables in this state, and how the
+/// The lines of a report after its rounds: the values of all variables in this state, and how the
 /// run ended. Want of memory is the only error.
 pub fn end_text(
     alloc: Global,
@@ -88,7 +90,7 @@ pub fn end_text(
     ensures { IfOk result (λ text. text ≡ end_of program.now last.now state.now) }
 {
     let mut text = Text::new(alloc);
-    push_boxes(&mut text, program, state)?;
+    push_state(&mut text, program, state)?;
     push_last(&mut text, program, last)?;
     Ok(text)
 }

@@ -1,4 +1,4 @@
-//! The texts of a run, byte for byte: reports, the counts of a program, and refusals.
+//! What is printed, byte for byte: reports, the counts and the levels of a program, and refusals.
 #![tactic(auto)]
 
 mod checked;

@@ -1,3 +1,5 @@
+//! The levels of a program, as they are printed.
+
 ghost use Rattle.std.specs.Prelude.{◌≡◌, ◌++◌, ◌<◌, length, map, IfOk, OnOk};
 ghost use Rattle.std.specs.List.{flat_map, range_with_len};
 ghost use Rattle.seuss_program.specs.declared.tree.Ref.{Ref};
@@ -87,9 +89,9 @@ fn push_cats(text: &mut Text, cats: &[Cat<Ref>], levels: &[Level]) -> Result<(),
 {
     let mut rest = levels;
     for cat in cats {
-        let (here, behind) = rest.split_at(cat.semis.as_slice().len());
+        let (here, later) = rest.split_at(cat.semis.as_slice().len());
         push_certificates(text, cat, cat.semis.as_slice(), here)?;
-        rest = behind;
+        rest = later;
     }
     Ok(())
 }

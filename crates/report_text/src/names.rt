@@ -1,3 +1,5 @@
+//! The names of actions, as they are printed.
+
 ghost use Rattle.std.specs.Prelude.{◌≡◌, ◌++◌, slice_get, IfOk, OnOk, option_copied};
 ghost use Rattle.seuss_program.specs.Programs.{procedure_of as proc_of};
 ghost use Rattle.seuss_program.specs.Reports.{action_name, box_name, proc_name};

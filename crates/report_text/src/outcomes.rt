@@ -1,7 +1,11 @@
-ghost use Rattle.std.specs.Prelude.{◌≡◌, ◌++◌, OnOk};
-ghost use Rattle.seuss_program.specs.Reports.{outcome_text, trap_text};
+//! How attempts ended, as it is printed.
 
+ghost use Rattle.std.specs.Prelude.{◌≡◌, ◌++◌, OnOk};
+ghost use Rattle.seuss_program.specs.Reports.{name_of_action, outcome_line, outcome_text, trap_text};
+
+use crate::names::push_action;
 use seuss_base::{Memory, Outcome, Text, Trap};
+use seuss_program::Program;
 
 /// The word of a trap.
 fn trap_word(trap: Trap) -> &'static [u8]
@@ -24,7 +28,7 @@ pub fn push_trap(text: &mut Text, trap: Trap) -> Result<(), Memory>
 }
 
 /// Puts how an attempt ended at the end.
-pub fn push_outcome(text: &mut Text, outcome: Outcome) -> Result<(), Memory>
+fn push_outcome(text: &mut Text, outcome: Outcome) -> Result<(), Memory>
     ensures { OnOk result (text.new ≡ text.old ++ outcome_text outcome) }
 {
     match outcome {
@@ -36,4 +40,20 @@ pub fn push_outcome(text: &mut Text, outcome: Outcome) -> Result<(), Memory>
             push_trap(text, trap)
         }
     }
+}
+
+/// Puts the line of an attempt of an action, with how it ended, at the end.
+pub fn push_attempt(
+    text: &mut Text,
+    program: &Program,
+    action: u32,
+    outcome: Outcome,
+) -> Result<(), Memory>
+    ensures { OnOk result (text.new ≡ text.old ++ outcome_line (name_of_action program.now action) outcome) }
+{
+    push_action(text, program, action)?;
+    text.push(b' ')?;
+    push_outcome(text, outcome)?;
+    text.push(b'\n')?;
+    Ok(())
 }

@@ -1,3 +1,5 @@
+//! Why something is refused, and the line that says so.
+
 ghost use Rattle.std.specs.Prelude.{◌≡◌, ◌++◌, IfOk, OnOk};
 ghost use Rattle.report_text.specs.Refusals.{kind_of, line_of, place_text, refusal as refusal_line};
 
@@ -9,25 +11,25 @@ use std::alloc::Global;
 /// is refused, from 1.
 #[derive(Clone, Copy, Debug, PartialEq, Eq)]
 pub enum Refused {
-    /// More bytes, tokens or numbers than the limits allow.
+    /// More bytes than are read: of a program, of its input, or of both together.
     Long,
     /// A byte that begins no token.
     Byte(u32),
-    /// A number above the greatest one.
+    /// A number above the greatest one, or a name longer than 32 bytes.
     Range(u32),
-    /// A token with which no program goes on.
+    /// A token with which no program goes on, or a text that ends too early.
     Syntax(u32),
     /// Too many operators and brackets in an expression, or too many open blocks.
     Nesting(u32),
-    /// A name that is declared twice.
+    /// A name that is declared twice, or a certificate or a hint that stands twice.
     Twice(u32),
-    /// A name that is not declared.
+    /// A name that is not declared where it is used.
     Unknown(u32),
     /// A name that is declared as something else.
     WrongKind(u32),
-    /// An expression of another type than is wanted.
+    /// An expression, a result or a given box of another type than is wanted.
     WrongType(u32),
-    /// Another number of arguments than is declared.
+    /// A call or a box with another number of arguments than is declared.
     Arguments(u32),
     /// An item that passes a limit.
     Count(u32),
@@ -37,7 +39,7 @@ pub enum Refused {
     TotalCall(u32),
     /// A box that leads back to itself over the boxes that it is given.
     Cycle(u32),
-    /// A word of the input that is no number.
+    /// A word of the input that is no number of 64 bits.
     Input(u32),
     /// A certificate that does not hold: from some state the two orders of its methods differ.
     CertificateNo(u32),

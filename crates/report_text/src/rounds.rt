@@ -1,24 +1,32 @@
+//! The rounds of a report.
+
 ghost use Rattle.std.specs.Prelude.{◌≡◌, ◌++◌, ◌+◌, ◌*◌, ◌/◌, ◌^◌, ◌<◌, ◌≤◌, ◌==◌, All, codes, length};
 ghost use Rattle.std.specs.Prelude.{decimal};
 ghost use Rattle.std.specs.Prelude.{IfOk, OnOk};
 ghost use Rattle.std.specs.List.{flat_map, prefix_len};
 ghost use Rattle.seuss_program.specs.declared.order.Placed.{Placed};
-ghost use Rattle.seuss_program.specs.Orders.{IsLawful, stops};
+ghost use Rattle.seuss_program.specs.Orders.{IsLawful, slots_of, stops};
 ghost use Rattle.seuss_program.specs.Reports.{attempt_line, line};
 ghost use Rattle.seuss_program.specs.Reports.{rounds_shown as shown_rounds, rounds_text as rounds_of};
 
-use crate::names::push_action;
 use crate::numbers::push_number;
-use crate::outcomes::push_outcome;
+use crate::outcomes::push_attempt;
 use seuss_base::{Memory, Outcome, Text};
 use seuss_program::{Order, Placed, Program};
 use std::alloc::Global;
 
-/// The round of an attempt, from 0, by the number of actions.
-fn round_of(entry: &Placed, actions: u64) -> u64
-    ensures { result ≡ entry.now.attempt / actions }
+/// How many slots a round has: each action of the program has one.
+fn slots(program: &Program) -> u64
+    ensures { result ≡ length (slots_of program.now) }
 {
-    entry.attempt.checked_div(actions).unwrap_or(0)
+    program.actions.len()
+}
+
+/// The round of an attempt, from 0, by the number of slots.
+fn round_of(entry: &Placed, slots: u64) -> u64
+    ensures { result ≡ entry.now.attempt / slots }
+{
+    entry.attempt.checked_div(slots).unwrap_or(0)
 }
 
 /// Whether an outcome stops a run.
@@ -30,41 +38,30 @@ fn is_stop(outcome: Outcome) -> bool
 
 /// How many rounds are printed: all of them, or those up to the round of the first attempt that
 /// stopped the run.
-fn rounds_shown(order: &[Placed], actions: u64, rounds: u32) -> u32
-    requires { All (λ (e : Placed). e.attempt < rounds * actions) order.now }
-    ensures shown { result ≡ shown_rounds actions rounds order.now }
+fn rounds_shown(order: &[Placed], slots: u64, rounds: u32) -> u32
+    requires { All (λ (e : Placed). e.attempt < rounds * slots) order.now }
+    ensures shown { result ≡ shown_rounds slots rounds order.now }
     ensures within { result ≤ rounds }
 {
     for entry in order {
         if is_stop(entry.outcome) {
-            return round_of(entry, actions) as u32 + 1;
+            return round_of(entry, slots) as u32 + 1;
         }
     }
     rounds
 }
 
 /// How many entries at the front are of this round.
-fn run_of_round(order: &[Placed], actions: u64, round: u32) -> usize
-    ensures run { result ≡ prefix_len (λ (e : Placed). e.attempt / actions == round) order.now }
+fn run_of_round(order: &[Placed], slots: u64, round: u32) -> usize
+    ensures run { result ≡ prefix_len (λ (e : Placed). e.attempt / slots == round) order.now }
     ensures within { result ≤ length order.now }
 {
     for (at, entry) in order.iter().enumerate() {
-        if round_of(entry, actions) != round as u64 {
+        if round_of(entry, slots) != round as u64 {
             return at;
         }
     }
     order.len()
-}
-
-/// Puts the line of an attempt at the end.
-pub fn push_attempt(text: &mut Text, program: &Program, entry: &Placed) -> Result<(), Memory>
-    ensures { OnOk result (text.new ≡ text.old ++ attempt_line program.now entry.now) }
-{
-    push_action(text, program, entry.action)?;
-    text.push(b' ')?;
-    push_outcome(text, entry.outcome)?;
-    text.push(b'\n')?;
-    Ok(())
 }
 
 /// Puts the lines of attempts at the end.
@@ -72,7 +69,7 @@ fn push_attempts(text: &mut Text, program: &Program, entries: &[Placed]) -> Resu
     ensures { OnOk result (text.new ≡ text.old ++ flat_map (attempt_line program.now) entries.now) }
 {
     for entry in entries {
-        push_attempt(text, program, entry)?;
+        push_attempt(text, program, entry.action, entry.outcome)?;
     }
     Ok(())
 }
@@ -88,7 +85,7 @@ fn push_head(text: &mut Text, number: u32) -> Result<(), Memory>
 }
 
 /// The rounds of a report, of which the first one is printed with the number `first_round`. Rounds
-/// behind one that stopped the run are not printed. Want of memory is the only error.
+/// after one that stopped the run are not printed. Want of memory is the only error.
 pub fn rounds_text(
     alloc: Global,
     program: &Program,
@@ -96,15 +93,15 @@ pub fn rounds_text(
     first_round: u32,
     rounds: u32,
 ) -> Result<Text, Memory>
-    requires lawful { IsLawful (length program.now.actions) rounds order.now.list }
+    requires lawful { IsLawful (slots_of program.now) rounds order.now.list }
     requires small { first_round + rounds < 2 ^ 32 }
     ensures { IfOk result (λ text. text ≡ rounds_of program.now order.now.list first_round rounds) }
 {
     let mut text = Text::new(alloc);
-    let actions = program.actions.len();
+    let slots = slots(program);
     let mut rest = order.list.as_slice();
-    for round in 0..rounds_shown(rest, actions, rounds) {
-        let (now, later) = rest.split_at(run_of_round(rest, actions, round));
+    for round in 0..rounds_shown(rest, slots, rounds) {
+        let (now, later) = rest.split_at(run_of_round(rest, slots, round));
         push_head(&mut text, first_round + round)?;
         push_attempts(&mut text, program, now)?;
         rest = later;

@@ -1,25 +1,13 @@
+//! The report of actions that are attempted one after the other.
+
 ghost use Rattle.std.specs.Prelude.{◌≡◌, ◌++◌, length, IfOk, OnOk};
-ghost use Rattle.std.specs.List.{flat_map};
-ghost use Rattle.seuss_program.specs.Reports.{attempt_line};
-ghost use Rattle.report_text.specs.TightReports.{attempts_of, attempted as attempt_of, tight_end};
-ghost use Rattle.report_text.specs.TightReports.{tight_report};
+ghost use Rattle.report_text.specs.TightReports.{tight_end as end_of, tight_lines, tight_report};
 
-use crate::ends::end_text;
-use crate::rounds::push_attempt;
+use crate::ends::{push_last, push_state};
+use crate::outcomes::push_attempt;
 use seuss_base::{Memory, Outcome, Text};
-use seuss_program::{LastLine, Outcomes, Placed, Program, State};
+use seuss_program::{LastLine, Outcomes, Program, State};
 use std::alloc::Global;
-
-/// An attempt of an action. Its number isn't printed.
-fn attempted(action: u32, outcome: Outcome) -> Placed
-    ensures { result ≡ attempt_of action outcome }
-{
-    Placed {
-        attempt: 0,
-        action,
-        outcome,
-    }
-}
 
 /// Puts the lines of attempts at the end.
 fn push_attempts(
@@ -28,18 +16,17 @@ fn push_attempts(
     actions: &[u32],
     outcomes: &[Outcome],
 ) -> Result<(), Memory>
-    ensures { OnOk result (text.new ≡ text.old
-        ++ flat_map (attempt_line program.now) (attempts_of actions.now outcomes.now)) }
+    ensures { OnOk result (text.new ≡ text.old ++ tight_lines program.now actions.now outcomes.now) }
 {
     for (action, outcome) in actions.iter().zip(outcomes) {
-        push_attempt(text, program, &attempted(*action, *outcome))?;
+        push_attempt(text, program, *action, *outcome)?;
     }
     Ok(())
 }
 
 /// How attempts end, by the first one that trapped or was spent.
 pub fn tight_end(actions: &[u32], outcomes: &[Outcome]) -> LastLine
-    ensures { result ≡ tight_end actions.now outcomes.now }
+    ensures { result ≡ end_of actions.now outcomes.now }
 {
     for (action, outcome) in actions.iter().zip(outcomes) {
         match *outcome {
@@ -68,7 +55,8 @@ pub fn tight_text(
     let outcomes = outcomes.list.as_slice();
     let mut text = Text::new(alloc);
     push_attempts(&mut text, program, actions, outcomes)?;
+    push_state(&mut text, program, state)?;
     let last = tight_end(actions, outcomes);
-    text.push_all(end_text(alloc, program, &last, state)?.as_bytes())?;
+    push_last(&mut text, program, &last)?;
     Ok(text)
 }

@@ -1,3 +1,5 @@
+//! Values, as they are printed.
+
 ghost use Rattle.std.specs.Prelude.{◌≡◌, ◌++◌, ◌∷◌, ◌<◌, length, slice_get, Some, OnOk};
 ghost use Rattle.std.specs.Fmt.{signed_decimal};
 ghost use Rattle.seuss_program.specs.Reports.{spaced, value_text};

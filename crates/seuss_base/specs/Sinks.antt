@@ -1,6 +1,6 @@
 -- What a write does to the bytes that were written.
 use Rattle.std.specs.Prelude.{◌≡◌, List, ℕ, ◌-◌, ◌++◌, length, Option, Some, IfSome, Result, IsErr, IfOk}
-use Rattle.std.specs.Prelude.{◌↔◌, ◌⊎◌, Contains, min}
+use Rattle.std.specs.Prelude.{◌↔◌, ◌⊎◌, Contains, min, MatchResult}
 use Rattle.seuss_base.specs.Faults.{next_count}
 use Rattle.seuss_base.specs.declared.source.Failed.{Failed}
 
@@ -24,6 +24,7 @@ pub record Stores (old new : Store) (offered : ℕ) (result : Result ℕ Failed)
   pub calls : new.calls ≡ next_count old.calls
   pub fails : IsErr result ↔ ((length old.written ≡ old.capacity) ⊎ Contains old.failing new.calls)
   pub takes : IfOk result (λ n. n ≡ min old.piece (min offered (old.capacity - length old.written)))
+  pub counted : MatchResult result (λ n. new.faults ≡ old.faults) (λ e. new.faults ≡ next_count old.faults)
   pub piece : new.piece ≡ old.piece
   pub capacity : new.capacity ≡ old.capacity
   pub failing : new.failing ≡ old.failing

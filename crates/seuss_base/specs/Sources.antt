@@ -1,6 +1,6 @@
 -- What a read does to the bytes that are left.
 use Rattle.std.specs.Prelude.{◌≡◌, ℕ, ◌≤◌, List, length, take, drop, Option, Some, Result, IsErr, IfOk, ◌↔◌}
-use Rattle.std.specs.Prelude.{Contains, min}
+use Rattle.std.specs.Prelude.{Contains, min, MatchResult}
 use Rattle.seuss_base.specs.Faults.{next_count}
 use Rattle.seuss_base.specs.declared.source.Failed.{Failed}
 
@@ -21,9 +21,11 @@ pub record Stock : Type 0 where
 
 -- One read of a source in memory, into a buffer with this room: it fails exactly where its number
 -- is one of the failing ones, and else takes all that the piece, the room and the bytes left allow.
+-- A failure is counted, and nothing else is.
 pub record Supplies (old new : Stock) (room : ℕ) (result : Result ℕ Failed) : Type 0 where
   pub calls : new.calls ≡ next_count old.calls
   pub fails : IsErr result ↔ Contains old.failing new.calls
   pub takes : IfOk result (λ n. n ≡ min old.piece (min room (length old.left)))
+  pub counted : MatchResult result (λ n. new.faults ≡ old.faults) (λ e. new.faults ≡ next_count old.faults)
   pub piece : new.piece ≡ old.piece
   pub failing : new.failing ≡ old.failing

@@ -1,3 +1,5 @@
+//! Owners of one value on the heap, which contracts see as that value.
+
 ghost use Rattle.std.specs.Prelude.{◌≡◌, IfOk};
 
 use crate::Memory;

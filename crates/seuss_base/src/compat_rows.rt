@@ -1,3 +1,5 @@
+//! Tables with the level of each ordered pair of actions.
+
 ghost use Rattle.std.specs.Prelude.{◌≡◌, ℕ, ◌+◌, ◌*◌, ◌<◌, ◌≤◌, IfOk};
 ghost use Rattle.seuss_base.specs.Tables.{level_at, Sets};
 ghost use Rattle.seuss_base.specs.declared.level.Level.TheVariants.{Never};

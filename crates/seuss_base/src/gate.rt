@@ -1,3 +1,5 @@
+//! Gates, which are told of each method step ahead of it.
+
 /// Told ahead of each method step which worker is about to make it. Tests hold a step back with one.
 pub trait Gate {
     /// A worker is about to make a step of an attempt on a box, and holds no box.

@@ -1,3 +1,5 @@
+//! Sequences of numbers that grow and shrink at their ends.
+
 ghost use Rattle.std.specs.Prelude.{◌≡◌, ◌^◌, ◌<◌, [], ◌∷◌, ◌++◌, length, slice_get, OnOk, OnErr, IfOk};
 ghost use Rattle.std.specs.Prelude.{MatchOption};
 

@@ -1,3 +1,5 @@
+//! The levels of safety, which are the modes of passes too.
+
 ghost use Rattle.std.specs.Prelude.{◌↔◌, IsTrue};
 ghost use Rattle.seuss_base.specs.Levels.{IsAtLeast};
 

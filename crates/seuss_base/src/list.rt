@@ -1,3 +1,5 @@
+//! Lists whose growth may want memory.
+
 ghost use Rattle.std.specs.Prelude.{◌≡◌, [], ◌∷◌, ◌++◌, ◌<◌, ◌^◌, length, slice_get, slice_set, MatchOption};
 ghost use Rattle.std.specs.Prelude.{Some, OnOk, OnErr, OnSome};
 ghost use Rattle.std.specs.Option.{option_copied};
@@ -49,6 +51,11 @@ impl<T> List<T> {
         items
     }
 
+    /// The allocator that the list takes its memory from.
+    pub fn allocator(&self) -> &Global {
+        self.items.allocator()
+    }
+
     /// How many items there are.
     pub fn len(&self) -> u64
         ensures { result ≡ length self.now }
@@ -80,6 +87,14 @@ impl<T> List<T> {
 }
 
 impl<T: Drop> List<T> {
+    /// Takes the memory for this many further items at once. The list stays as it is.
+    pub fn reserve(&mut self, further: u64) -> Result<(), Memory>
+        ensures { self.new ≡ self.old }
+    {
+        self.items.reserve(further as usize)?;
+        Ok(())
+    }
+
     /// Puts an item at the end. Where memory is refused, the list stays as it was and the item is dropped.
     pub fn push(&mut self, item: T) -> Result<(), Memory>
         ensures ok { OnOk result (self.new ≡ self.old ++ item ∷ []) }

@@ -1,3 +1,5 @@
+//! Want of memory, the one answer that is tied to no cause.
+
 use std::alloc::{AllocError, AllocFailed};
 
 /// Want of memory: an allocation was refused.

@@ -1,3 +1,5 @@
+//! A sink in memory, for tests: it takes pieces, is full at some time, and fails at chosen calls.
+
 ghost use Rattle.std.specs.Prelude.{◌≡◌, ◌≤◌, [], IfOk};
 
 use crate::{Failed, List, Memory, Sink};

@@ -1,3 +1,5 @@
+//! A source in memory, for tests: it hands out pieces, and fails at chosen calls.
+
 ghost use Rattle.std.specs.Prelude.{◌≡◌, ◌<◌, ◌≤◌};
 ghost use Rattle.seuss_base.specs.Sources.{Stock, Supplies};
 

@@ -1,3 +1,5 @@
+//! How evaluations, attempts and passes end.
+
 /// Why an evaluation stopped without a value.
 #[derive(Clone, Copy, Debug, PartialEq, Eq)]
 pub enum Trap {

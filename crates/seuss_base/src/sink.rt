@@ -1,3 +1,5 @@
+//! Where bytes are written to, and what a write that fails leaves.
+
 ghost use Rattle.std.specs.Prelude.{◌≡◌, ℕ, ◌<◌, ◌≤◌, ◌^◌, List, length, take, Option, IfOk, OnErr};
 ghost use Rattle.seuss_base.specs.Faults.{Rose};
 ghost use Rattle.seuss_base.specs.Sinks.{Adds};

@@ -1,3 +1,5 @@
+//! Where bytes are read from, and what a read that fails leaves.
+
 ghost use Rattle.std.specs.Prelude.{◌≡◌, ℕ, ◌<◌, ◌≤◌, ◌^◌, List, [], length, Option, IfOk, IfSome, OnErr};
 ghost use Rattle.seuss_base.specs.Faults.{Rose};
 ghost use Rattle.seuss_base.specs.Sources.{Moves};

@@ -1,3 +1,5 @@
+//! A writer of std as a sink, which tells no bytes: the trusted edge on the writing side.
+
 ghost use Rattle.std.specs.Prelude.{◌≡◌, ◌<◌, ◌^◌, None};
 
 use crate::{Failed, Sink};

@@ -1,3 +1,5 @@
+//! A reader of std as a source, which tells no bytes: the trusted edge on the reading side.
+
 ghost use Rattle.std.specs.Prelude.{◌≡◌, ◌<◌, ◌^◌, None};
 
 use crate::{Failed, Source};

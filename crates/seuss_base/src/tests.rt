@@ -1,3 +1,5 @@
+//! Tests of lists, texts, tables, and of sources and sinks with their faults.
+
 use super::*;
 use std::alloc::{AllocError, Global};
 use std::io;

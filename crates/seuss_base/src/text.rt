@@ -1,3 +1,5 @@
+//! Texts: rows of bytes that grow at their end.
+
 ghost use Rattle.std.specs.Prelude.{◌≡◌, [], ◌∷◌, ◌++◌, length, OnOk, OnErr, IfOk};
 
 use crate::Memory;

@@ -20,7 +20,7 @@ last_line [] = 1
 last_line (word ∷ []) = word.line
 last_line (word ∷ next ∷ words) = last_line (next ∷ words)
 
--- no program goes on behind these words with the next one, which stands on this line; or they are the whole
+-- no program goes on after these words with the next one, which stands on this line; or they are the whole
 -- text, and no program
 abbrev pub IsNotGoneOn : List Word → List Word → ℕ → Type 0
 IsNotGoneOn front [] line = (line ≡ last_line front) ×

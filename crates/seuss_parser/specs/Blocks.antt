@@ -12,7 +12,7 @@ use Rattle.seuss_program.specs.declared.tree.Statement.{Statement}
 abbrev pub read_block : ℕ → Reading (List (Statement Name))
 read_block nesting = many begins_statement (read_statement nesting (pred nesting))
 
--- the block behind `else`, which may be left out
+-- the block after `else`, which may be left out
 abbrev pub read_perhaps_else : Bool → Reading (List (Statement Name)) → Reading (List (Statement Name))
 read_perhaps_else passes block room words =
     read_as listed (optional (begins_with S.Else) (read_else passes block) room words)

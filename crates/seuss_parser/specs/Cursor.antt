@@ -44,10 +44,10 @@ abbrev pub begins_as_version : List Word → Bool
 begins_as_version [] = false
 begins_as_version (word ∷ words) = is_some (as_version word)
 
--- an item that was read, and those that stand behind it
+-- an item that was read, and those that stand after it
 abbrev pub read_items_behind : {A : Type 0} → A → (List Word → Bool) → Reading A → Reading (List A)
 read_items_behind first starts one room words = read_as (with_first first) (many starts one room words)
 
--- the same, where they stand behind commas
+-- the same, where they stand after commas
 abbrev pub read_others : {A : Type 0} → A → Reading A → Reading (List A)
 read_others first one = read_items_behind first (begins_with S.Comma) (read_next one)

@@ -34,24 +34,27 @@ use Rattle.seuss_program.specs.declared.tree.Cat.{Cat}
 use Rattle.seuss_program.specs.declared.tree.BoxDecl.{BoxDecl}
 use Rattle.seuss_program.specs.declared.tree.Tree.{Tree}
 
--- how many marks a whole expression has at most, and how many `if` and `while` stand in one another
+-- how many marks a whole expression has at most
 abbrev pub max_marks : ℕ
 max_marks = 256
 
+-- how many `if` and `while` stand in one another at most
 abbrev pub max_nesting : ℕ
 max_nesting = 64
 
--- a keyword or a sign, by its line, and one that counts as a mark
+-- a keyword or a sign, by its line
 abbrev pub IsSymbol : Symbol → Phrase ℕ
 IsSymbol symbol = OneWord (as_symbol symbol) false
 
+-- a keyword or a sign that counts as a mark, by its line
 abbrev pub IsMark : Symbol → Phrase ℕ
 IsMark symbol = OneMark (as_symbol symbol)
 
--- one of the symbols of a table, and one that counts as a mark
+-- one of the symbols of a table
 abbrev pub IsOneOf : {A : Type 0} → (Symbol → Option A) → Phrase (Marked A)
 IsOneOf table = OneWord (as_one_of table) false
 
+-- one of the symbols of a table, which counts as a mark
 abbrev pub IsMarkOf : {A : Type 0} → (Symbol → Option A) → Phrase (Marked A)
 IsMarkOf table = OneMark (as_one_of table)
 
@@ -414,19 +417,21 @@ IsSequence = do
   IsSymbol S.CloseSquare
   Only numbers
 
--- a type and a start value, of the variable of this name
+-- the type int and a start value, of the variable of this name
 unfoldable pub IsIntOf : Name → Phrase Var
 IsIntOf name = do
   IsSymbol S.Int
   start ← Optional (IsStart IsSigned)
   Only (int_variable name start)
 
+-- the type bool and a start value, of the variable of this name
 unfoldable pub IsBoolOf : Name → Phrase Var
 IsBoolOf name = do
   IsSymbol S.Bool
   start ← Optional (IsStart (IsOneOf truth))
   Only (bool_variable name start)
 
+-- the type seq and a start value, of the variable of this name
 unfoldable pub IsSeqOf : Name → Phrase Var
 IsSeqOf name = do
   IsSymbol S.Seq

@@ -33,7 +33,7 @@ read_part L.Product inner = read_unary inner
 abbrev pub read_level : Level → Reading (Expr Name) → Reading (Expr Name)
 read_level level inner = read_chain (operators level) (read_part level inner)
 
--- a first part, and those that stand behind it in a chain
+-- a first part, and those that stand after it in a chain
 abbrev pub read_links : Level → Reading (Expr Name) → Expr Name → Reading (Expr Name)
 read_links level inner first room words =
     read_as (grouped first)

@@ -7,6 +7,7 @@ use Rattle.seuss_parser.specs.declared.word.Word.{Word}
 
 infixl 10 ◌>>=◌
 infixl 10 ◌>>◌
+-- a word of a phrase, and whether it passes a limit where it stands
 pub record Piece : Type 0 where
   pub word : Word
   pub passes : Bool
@@ -19,7 +20,7 @@ words_in pieces = map (λ (p : Piece). p.word) pieces
 abbrev pub AreKept : List Piece → Type 0
 AreKept pieces = All (λ (p : Piece). p.passes ≡ false) pieces
 
--- what is spelled, by the value, the room before, the pieces and the room behind
+-- what is spelled, by the value, the room before, the pieces and the room after
 abbrev pub Phrase : Type 0 → Type 1
 Phrase A = A → ℕ → List Piece → ℕ → Type 0
 
@@ -39,7 +40,7 @@ pub record OneMark {A : Type 0} (reads : Word → Option A) (value : A) (room : 
   pub read : reads word ≡ Some value
   pub room_falls : left ≡ pred room
 
--- a phrase, and behind it one that may depend on its value
+-- a phrase, and after it one that may depend on its value
 pub record Then {A B : Type 0} (P : Phrase A) (Q : A → Phrase B) (value : B) (room : ℕ)
     (pieces : List Piece) (left : ℕ) : Type 0 where
   pub first : A
@@ -70,7 +71,7 @@ abbrev pub Optional : {A : Type 0} → Phrase A → Phrase (Option A)
 Optional P None room pieces left = (pieces ≡ []) × (left ≡ room)
 Optional P (Some value) room pieces left = P value room pieces left
 
--- any number of phrases, one behind the other
+-- any number of phrases, one after the other
 abbrev pub Many : {A : Type 0} → Phrase A → Phrase (List A)
 Many P [] room pieces left = (pieces ≡ []) × (left ≡ room)
 Many P (value ∷ values) room pieces left =

@@ -14,7 +14,7 @@ pub data Fault : Type 0 where
   Unexpected : Fault
   TooDeep : Fault
 
--- a value, the room that is left and the words behind it; or a refusal, and the words from the refused one
+-- a value, the room that is left and the words after it; or a refusal, and the words from the refused one
 -- on
 pub data Read (A : Type 0) : Type 0 where
   Got : A → ℕ → List Word → Read A
@@ -31,12 +31,12 @@ Gives (Err stops.Unexpected) left rest read = read ≡ Refused Unexpected rest
 Gives (Err stops.TooDeep) left rest read = read ≡ Refused TooDeep rest
 Gives (Err stops.Memory) left rest read = Unit {0}
 
--- what was read, and what is read behind it
+-- what was read, and what is read after it
 abbrev pub read_then : {A B : Type 0} → Read A → (A → Reading B) → Read B
 read_then (Got value left rest) next = next value left rest
 read_then (Refused fault rest) next = Refused fault rest
 
--- the value of a word that may pass a limit, and the words behind it
+-- the value of a word that may pass a limit, and the words after it
 abbrev pub got_word : {A : Type 0} → Bool → ℕ → Word → List Word → Option A → Read A
 got_word passes left word rest None = Refused Unexpected (word ∷ rest)
 got_word passes left word rest (Some value) =

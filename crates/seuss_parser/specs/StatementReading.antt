@@ -16,7 +16,7 @@ use Rattle.seuss_program.specs.declared.tree.Call.{Call}
 use Rattle.seuss_program.specs.declared.tree.Pre.{Pre}
 use Rattle.seuss_program.specs.declared.tree.Alternative.{Alternative}
 
--- "." NAME "(" [ expr { "," expr } ] ")", behind the name of the box that is called
+-- "." NAME "(" [ expr { "," expr } ] ")", after the name of the box that is called
 unfoldable pub read_call_of : Name → Reading (Call Name)
 read_call_of target = do
   read_symbol S.Dot
@@ -59,7 +59,7 @@ read_assigned name = do
   value ← read_whole_expression
   ends (T.Assign name value)
 
--- ":=" ( call | expr ), behind this name
+-- ":=" ( call | expr ), after this name
 unfoldable pub read_binding : Name → Reading (Statement Name)
 read_binding name = do
   read_symbol S.Assign
@@ -128,7 +128,7 @@ read_plain_pre target = do
   call ← read_call_of target
   ends (record { bind = None; call = call })
 
--- ":=" call, behind this name
+-- ":=" call, after this name
 unfoldable pub read_bound_pre : Name → Reading (Pre Name)
 read_bound_pre name = do
   read_symbol S.Assign

@@ -1,4 +1,4 @@
--- Reading a program and looking for the end of the words behind it.
+-- Reading a program and looking for the end of the words after it.
 use Rattle.std.specs.Prelude.{ℕ, List, [], ◌∷◌}
 use Rattle.seuss_parser.specs.Readings.{Reading, Got, Refused, Unexpected, ◌>>=◌}
 use Rattle.seuss_parser.specs.DeclarationReading.{read_program}

@@ -23,9 +23,11 @@ sort_of K.Number bytes = Number (pos (decimal_value bytes))
 sort_of K.Sign bytes = Fixed (sign_of bytes)
 sort_of K.Keyword bytes = Fixed (keyword_of bytes)
 
+-- a token of a text as a word of the grammar, with its line
 abbrev pub word_of : List ℕ → Token → Word
 word_of text token = record { line = token.line; sort = sort_of token.kind (token_text text token) }
 
+-- the tokens of a text as words of the grammar
 abbrev pub words_of : List ℕ → List Token → List Word
 words_of text tokens = map (λ token. word_of text token) tokens
 
@@ -79,11 +81,12 @@ version_of (Number value) = if is_one value then Some tt else None
 abbrev pub as_version : Word → Option (Unit {0})
 as_version word = version_of word.sort
 
--- what a symbol stands for in a table, with the line of the word
+-- what a symbol stands for, where it stands for something, with the line of the word
 abbrev pub marked_as : {A : Type 0} → ℕ → Option A → Option (Marked A)
 marked_as line None = None
 marked_as line (Some a) = Some (record { is = a; line = line })
 
+-- what a word stands for in a table of symbols, with its line; names and numbers stand in none
 abbrev pub meaning_of : {A : Type 0} → (Symbol → Option A) → ℕ → Sort → Option (Marked A)
 meaning_of table line (Fixed symbol) = marked_as line (table symbol)
 meaning_of table line (Named text) = None

@@ -1,3 +1,5 @@
+//! Given boxes, variables, certificates, cats and boxes.
+
 ghost use Rattle.std.specs.Prelude.{◌≡◌, IfOk};
 ghost use Rattle.seuss_parser.specs.declared.symbol.Symbol.TheVariants as S;
 ghost use Rattle.seuss_parser.specs.Fronts.{begins_with, begins_with_one_of};

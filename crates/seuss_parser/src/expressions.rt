@@ -1,3 +1,5 @@
+//! Expressions, level by level, with the room that is left for marks.
+
 ghost use Rattle.std.specs.Prelude.{◌≡◌, IfOk};
 ghost use Rattle.seuss_parser.specs.declared.symbol.Symbol.TheVariants as S;
 ghost use Rattle.seuss_parser.specs.Readings.{many};

@@ -1,3 +1,5 @@
+//! The numbers of an input.
+
 mod number;
 mod refusal;
 

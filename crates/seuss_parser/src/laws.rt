@@ -1,3 +1,5 @@
+//! Laws of reading: words have one answer.
+
 ghost use Rattle.std.specs.Prelude.{◌≡◌, List, All, Result};
 ghost use Rattle.seuss_parser.specs.Answers.{Parses, IsAnswered};
 ghost use Rattle.seuss_parser.specs.Spelling.{IsWord};

@@ -1,3 +1,5 @@
+//! Lists of phrases: any number, at least one, and those with commas between.
+
 ghost use Rattle.std.specs.Prelude.{◌≡◌, ◌<◌, IsTrue, List as Values, Bool, length};
 ghost use Rattle.seuss_parser.specs.declared.symbol.Symbol.TheVariants as S;
 ghost use Rattle.seuss_parser.specs.declared.word.Word.{Word};

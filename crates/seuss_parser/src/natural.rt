@@ -1,3 +1,5 @@
+//! Numbers in digits, which are never negative.
+
 ghost use Rattle.std.specs.Prelude.{◌≡◌, ◌<◌, ◌^◌, pos, neg_ℤ, nat_abs};
 
 use std::marker::Model;

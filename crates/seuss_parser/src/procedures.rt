@@ -1,3 +1,5 @@
+//! Alternatives and procedures.
+
 ghost use Rattle.std.specs.Prelude.{◌≡◌};
 ghost use Rattle.seuss_parser.specs.declared.symbol.Symbol.TheVariants as S;
 ghost use Rattle.seuss_parser.specs.Fronts.{begins_with, begins_procedure};

@@ -1,3 +1,5 @@
+//! Whole programs: the tree that tokens are, or the line of the first word that fits no program.
+
 ghost use Rattle.std.specs.Prelude.{◌≡◌};
 ghost use Rattle.seuss_text.specs.Rows.{AreTokens};
 ghost use Rattle.seuss_text.specs.Limits.{AreInLimits};

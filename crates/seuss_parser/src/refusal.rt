@@ -1,3 +1,5 @@
+//! Why tokens are no program.
+
 ghost use Rattle.std.specs.Prelude.{◌≡◌};
 ghost use Rattle.seuss_parser.specs.declared.refusal.ParseRefusal.TheVariants.{Memory as OutOfMemory};
 

@@ -1,3 +1,5 @@
+//! Tokens as words of the grammar: symbols, names and numbers.
+
 ghost use Rattle.std.specs.Prelude.{◌≡◌, ◌<◌, length, slice_index_or, Some, IfOk};
 ghost use Rattle.std.specs.Str.{bytes_eq};
 ghost use Rattle.seuss_text.specs.Words.{kind_of};

@@ -1,3 +1,5 @@
+//! Statements, bodies and calls, read by the first words of each.
+
 ghost use Rattle.std.specs.Prelude.{◌≡◌, ◌<◌, ◌==◌};
 ghost use Rattle.seuss_parser.specs.declared.symbol.Symbol.TheVariants as S;
 ghost use Rattle.seuss_parser.specs.ExpressionReading.{read_whole_expression};

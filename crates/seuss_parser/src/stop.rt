@@ -1,3 +1,5 @@
+//! Why reading stopped at a word.
+
 ghost use Rattle.std.specs.Prelude.{◌≡◌};
 ghost use Rattle.seuss_parser.specs.declared.stop.Stop.TheVariants.{Memory as OutOfMemory};
 

@@ -1,3 +1,5 @@
+//! Keywords and signs.
+
 /// A keyword or a sign.
 #[derive(Clone, Copy, Debug, PartialEq, Eq)]
 pub enum Symbol {

@@ -1,3 +1,5 @@
+//! What symbols stand for: operators, functions, truth values, types, arrows and sides.
+
 ghost use Rattle.std.specs.Prelude.{◌≡◌};
 ghost use Rattle.seuss_parser.specs.Trees.{disjunction, conjunction, comparison, addition, multiplication};
 ghost use Rattle.seuss_parser.specs.Trees.{function, pair_function, truth, small_kind, arrow, side};

@@ -1,3 +1,5 @@
+//! Words of the grammar with their lines, and what is read of them.
+
 ghost use Rattle.std.specs.Prelude.{◌≡◌, is_some};
 ghost use Rattle.seuss_parser.specs.Words.{is_symbol, as_version};
 ghost use Rattle.seuss_parser.specs.Fronts.{is_name, is_number, starts_statement, starts_procedure};

@@ -1,3 +1,5 @@
+//! The words that are left of a text.
+
 ghost use Rattle.std.specs.Prelude.{◌≡◌, ◌<◌, [], ◌∷◌, false, length, OnOk, MatchOption};
 ghost use Rattle.seuss_parser.specs.Words.{as_symbol, as_version, marked_as};
 ghost use Rattle.seuss_parser.specs.Readings.{one_word, one_mark};

@@ -32,6 +32,7 @@ abbrev pub pre_items : Option (Pre Name) → List Item
 pre_items None = []
 pre_items (Some pre) = spaced (symbol S.Semicolon) ++ binding pre.bind ++ call_items pre.call
 
+-- the arrow of an alternative, by whether it accepts
 abbrev pub arrow_symbol : Bool → Symbol
 arrow_symbol true = S.Arrow
 arrow_symbol false = S.NegativeArrow
@@ -43,6 +44,7 @@ alternative a =
     ++ Space ∷ symbol (arrow_symbol a.positive) ∷ [])
     ++ body a.body 3
 
+-- `name : kind` of a parameter
 abbrev pub param : Param → List Item
 param p = typed p.name p.kind
 
@@ -55,23 +57,27 @@ result_items false = []
 abbrev pub method_head : Proc Name → List Item
 method_head q = Space ∷ named q.name ∷ bracketed (separated param q.params) ++ result_items q.gives
 
--- the lines of a procedure but for its `end`
+-- the lines of a total method but for its `end`
 abbrev pub total_items : Proc Name → List (Statement Name) → List Item
 total_items q statements =
     line 1 (symbol S.Total ∷ method_head q ++ Space ∷ symbol S.Is ∷ []) ++ body statements 2
 
+-- the lines of a partial method but for its `end`
 abbrev pub partial_items : Proc Name → List (Alternative Name) → List Item
 partial_items q alternatives = line 1 (symbol S.Partial ∷ method_head q) ++ flat_map alternative alternatives
 
+-- the lines of an action but for its `end`
 abbrev pub action_items : Proc Name → List (Alternative Name) → List Item
 action_items q alternatives =
     line 1 (symbol S.Action ∷ Space ∷ named q.name ∷ []) ++ flat_map alternative alternatives
 
+-- the lines of a procedure but for its `end`
 abbrev pub form_items : Proc Name → Form Name → List Item
 form_items q (F.Total statements) = total_items q statements
 form_items q (F.Partial alternatives) = partial_items q alternatives
 form_items q (F.Action alternatives) = action_items q alternatives
 
+-- the lines of a procedure
 abbrev pub procedure : Proc Name → List Item
 procedure q = form_items q q.form ++ line 1 (symbol S.End ∷ [])
 
@@ -80,6 +86,7 @@ abbrev pub signed : ℤ → List Item
 signed (pos n) = number (pos n) ∷ []
 signed (negsuc n) = symbol S.Minus ∷ number (pos (suc n)) ∷ []
 
+-- ` = ` and these items
 abbrev pub equals : List Item → List Item
 equals items = spaced (symbol S.Equal) ++ items
 
@@ -91,9 +98,11 @@ start_items (V.Seq []) = []
 start_items (V.Seq (z ∷ zs)) =
     equals (symbol S.OpenSquare ∷ separated signed (z ∷ zs) ++ symbol S.CloseSquare ∷ [])
 
+-- the line of a variable
 abbrev pub variable : Var → List Item
 variable v = line 1 (symbol S.Var ∷ Space ∷ typed v.name v.kind ++ start_items v.start)
 
+-- the keyword of the end of a sequence that a hint is about
 abbrev pub side_symbol : Bool → Symbol
 side_symbol true = S.Front
 side_symbol false = S.Back
@@ -112,12 +121,14 @@ semi s =
 abbrev pub given : Given Name → List Item
 given g = named g.name ∷ spaced (symbol S.Colon) ++ named g.cat ∷ []
 
+-- the lines of a cat
 abbrev pub cat : Cat Name → List Item
 cat c =
     line 0 (symbol S.Cat ∷ Space ∷ named c.name ∷ perhaps_bracketed given c.given)
     ++ flat_map variable c.vars ++ flat_map procedure c.procs ++ flat_map semi c.semis
     ++ line 0 (symbol S.End ∷ [])
 
+-- the name of a given box
 abbrev pub box_name : Name → List Item
 box_name name = named name ∷ []
 
@@ -133,5 +144,6 @@ program tree =
     line 0 (symbol S.Seuss ∷ Space ∷ number (pos 1) ∷ []) ++ flat_map cat tree.cats
     ++ flat_map box tree.boxes
 
+-- the canonical text of a tree, byte for byte
 abbrev pub canonical_text : Tree → List ℕ
 canonical_text tree = text_of (program tree)

@@ -14,7 +14,7 @@ use Rattle.seuss_program.specs.declared.tree.Fun.{Fun}
 use Rattle.seuss_program.specs.declared.tree.Fun.TheVariants as F
 use Rattle.seuss_print.specs.Items.{Item, Space, symbol, named, number, spaced, bracketed, behind_comma}
 
--- the keyword or sign of an operator and of a function
+-- the keyword or sign of an operator
 abbrev pub op_symbol : Op → Symbol
 op_symbol O.Or = S.Or
 op_symbol O.And = S.And
@@ -34,6 +34,7 @@ op_symbol O.Remainder = S.Remainder
 op_symbol O.At = S.At
 op_symbol O.Add = S.Add
 
+-- the keyword of a function
 abbrev pub fun_symbol : Fun → Symbol
 fun_symbol F.First = S.First
 fun_symbol F.Last = S.Last
@@ -41,17 +42,20 @@ fun_symbol F.Rest = S.Rest
 fun_symbol F.Front = S.Front
 fun_symbol F.Len = S.Len
 
+-- the keyword of a truth value
 abbrev pub truth_symbol : Bool → Symbol
 truth_symbol true = S.True
 truth_symbol false = S.False
 
--- the level of a minus, of `not`, and of what needs no parentheses in any place
+-- the level of a minus
 abbrev pub minus_level : ℕ
 minus_level = 6
 
+-- the level of `not`
 abbrev pub not_level : ℕ
 not_level = 2
 
+-- the level of what needs no parentheses in any place
 abbrev pub primary_level : ℕ
 primary_level = 7
 
@@ -75,11 +79,12 @@ op_level O.Remainder = 5
 op_level O.At = primary_level
 op_level O.Add = primary_level
 
--- the level that an operator wants of its left part, and of its right one: all but comparisons group to the
--- left
+-- the level that an operator wants of its left part: its own, so that chains group to the left; a
+-- comparison wants the one above it
 abbrev pub left_level : Op → ℕ
 left_level op = if is_comparison op then suc (op_level op) else op_level op
 
+-- the level that an operator wants of its right part, the one above its own
 abbrev pub right_level : Op → ℕ
 right_level op = suc (op_level op)
 
@@ -114,6 +119,7 @@ node_step (N.Not part) = record { level = not_level; items = symbol S.Not ∷ Sp
 node_step (N.Two op left right) = record { level = op_level op; items = two_items op left right }
 node_step (N.One fun part) = primary (symbol (fun_symbol fun) ∷ bracketed part.items)
 
+-- what is printed of an expression, and its level
 unfoldable pub printed : Expr Name → Printed
 printed e = fold-Expr Name Printed Printed node_step (λ layer. layer.node) e
 

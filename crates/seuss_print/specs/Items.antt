@@ -9,6 +9,7 @@ use Rattle.seuss_parser.specs.declared.word.Sort.{Sort}
 use Rattle.seuss_parser.specs.declared.word.Sort.TheVariants.{Fixed, Name as Named, Number}
 use Rattle.seuss_program.specs.declared.tree.Name.{Name}
 
+-- what a text consists of: tokens, spaces and line feeds
 pub data Item : Type 0 where
   Token : Sort → Item
   Space : Item
@@ -20,12 +21,13 @@ token_text (Fixed symbol) = symbol_text symbol
 token_text (Named text) = text
 token_text (Number z) = signed_decimal z
 
+-- the bytes of an item
 abbrev pub item_text : Item → List ℕ
 item_text (Token sort) = token_text sort
 item_text Space = 32 ∷ []
 item_text LineFeed = 10 ∷ []
 
--- the text of items, one behind the other
+-- the text of items, one after the other
 abbrev pub text_of : List Item → List ℕ
 text_of items = flat_map item_text items
 
@@ -36,13 +38,15 @@ tokens_in (Token sort ∷ items) = sort ∷ tokens_in items
 tokens_in (Space ∷ items) = tokens_in items
 tokens_in (LineFeed ∷ items) = tokens_in items
 
--- a keyword or a sign, a name and a number
+-- a keyword or a sign
 abbrev pub symbol : Symbol → Item
 symbol s = Token (Fixed s)
 
+-- a name, by its text
 abbrev pub named : Name → Item
 named name = Token (Named name.text)
 
+-- a number in digits
 abbrev pub number : ℤ → Item
 number z = Token (Number z)
 

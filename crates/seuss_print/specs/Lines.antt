@@ -25,14 +25,16 @@ use Rattle.seuss_program.specs.declared.tree.Cat.{Cat}
 use Rattle.seuss_program.specs.declared.tree.BoxDecl.{BoxDecl}
 use Rattle.seuss_program.specs.declared.tree.Tree.{Tree}
 
--- each of these with all its lines made 0
+-- a name on line 0
 abbrev pub name : Name → Name
 name n = record { text = n.text; line = 0 }
 
+-- the same of what may be left out
 abbrev pub perhaps : {A : Type 0} → (A → A) → Option A → Option A
 perhaps f None = None
 perhaps f (Some a) = Some (f a)
 
+-- one node of an expression, whose names are on line 0
 abbrev pub node_step : Node-F Name (Node Name) (Expr Name) → Node Name
 node_step (L.Int z) = N.Int z
 node_step (L.Bool b) = N.Bool b
@@ -43,13 +45,16 @@ node_step (L.Not e) = N.Not e
 node_step (L.Two op l r) = N.Two op l r
 node_step (L.One fun e) = N.One fun e
 
+-- an expression with all its lines made 0
 unfoldable pub expression : Expr Name → Expr Name
 expression e = fold-Expr Name (Node Name) (Expr Name) node_step
     (λ layer. record { line = 0; node = layer.node }) e
 
+-- a call with all its lines made 0
 abbrev pub call : Call Name → Call Name
 call c = record { target = name c.target; method = name c.method; args = map expression c.args }
 
+-- one statement with all its lines made 0, over the statements inside it
 abbrev pub statement_step : Statement-F Name (Statement Name) → Statement Name
 statement_step (P.Let n kind e) = T.Let (name n) kind (expression e)
 statement_step (P.Assign n e) = T.Assign (name n) (expression e)
@@ -57,12 +62,15 @@ statement_step (P.Call bind c) = T.Call (perhaps name bind) (call c)
 statement_step (P.If cond holds fails) = T.If (expression cond) holds fails
 statement_step (P.While cond turn) = T.While (expression cond) turn
 
+-- a statement with all its lines made 0
 unfoldable pub statement : Statement Name → Statement Name
 statement s = fold-Statement Name (Statement Name) statement_step s
 
+-- a preprocedure with all its lines made 0
 abbrev pub pre : Pre Name → Pre Name
 pre p = record { bind = perhaps name p.bind; call = call p.call }
 
+-- an alternative with all its lines made 0
 abbrev pub alternative : Alternative Name → Alternative Name
 alternative a = record {
   line = 0;
@@ -72,29 +80,37 @@ alternative a = record {
   body = map statement a.body;
 }
 
+-- a body or alternatives with all their lines made 0
 abbrev pub form : Form Name → Form Name
 form (F.Total statements) = F.Total (map statement statements)
 form (F.Partial alternatives) = F.Partial (map alternative alternatives)
 form (F.Action alternatives) = F.Action (map alternative alternatives)
 
+-- a parameter with its line made 0
 abbrev pub param : Param → Param
 param p = record { name = name p.name; kind = p.kind }
 
+-- a procedure with all its lines made 0
 abbrev pub procedure : Proc Name → Proc Name
 procedure q = record { name = name q.name; params = map param q.params; gives = q.gives; form = form q.form }
 
+-- a variable with its line made 0
 abbrev pub variable : Var → Var
 variable v = record { name = name v.name; kind = v.kind; start = v.start }
 
+-- a given box of a cat with its lines made 0
 abbrev pub given : Given Name → Given Name
 given g = record { name = name g.name; cat = name g.cat }
 
+-- a hint with its lines made 0
 abbrev pub hint : Hint Name → Hint Name
 hint h = record { front = h.front; name = name h.name; depth = h.depth; line = 0 }
 
+-- a certificate with all its lines made 0
 abbrev pub semi : Semi Name → Semi Name
 semi s = record { line = 0; first = name s.first; second = name s.second; hints = map hint s.hints }
 
+-- a cat with all its lines made 0
 abbrev pub cat : Cat Name → Cat Name
 cat c = record {
   name = name c.name;
@@ -104,9 +120,11 @@ cat c = record {
   semis = map semi c.semis;
 }
 
+-- a box with all its lines made 0
 abbrev pub box : BoxDecl → BoxDecl
 box b = record { name = name b.name; cat = name b.cat; given = map name b.given }
 
+-- a tree with all its lines made 0
 abbrev pub without_lines : Tree → Tree
 without_lines tree = record { cats = map cat tree.cats; boxes = map box tree.boxes }
 

@@ -1,5 +1,5 @@
--- Which words stand in a place of an expression: to the left and right of an operator, behind `not` and
--- behind a minus. Each place wants a level, which is a production of the grammar.
+-- Which words stand in a place of an expression: to the left and right of an operator, after `not` and
+-- after a minus. Each place wants a level, which is a production of the grammar.
 use Rattle.std.specs.Prelude.{◌≡◌, ℕ, zero, suc, List, map}
 use Rattle.seuss_parser.specs.Phrases.{Phrase, Piece, words_in, AreKept}
 use Rattle.seuss_parser.specs.Grammar.{IsPrimary, IsUnary, IsProduct, IsSum, IsComparison, IsNegation}

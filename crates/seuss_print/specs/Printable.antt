@@ -64,6 +64,7 @@ is_mark S.Open = true
 is_mark S.OpenSquare = true
 is_mark symbol = false
 
+-- whether a token counts as a mark
 abbrev pub counts : Sort → Bool
 counts (Fixed symbol) = is_mark symbol
 counts (Named text) = false
@@ -98,6 +99,7 @@ around cond inner = record { expressions = cond ∷ inner.expressions; depth = s
 abbrev pub only : List (Expr Name) → Content
 only expressions = record { expressions = expressions; depth = 0 }
 
+-- the expressions of one statement and how deep it is, over the statements inside it
 abbrev pub statement_step : Statement-F Name Content → Content
 statement_step (T.Let name kind e) = only (e ∷ [])
 statement_step (T.Assign name e) = only (e ∷ [])
@@ -105,6 +107,7 @@ statement_step (T.Call bind call) = only call.args
 statement_step (T.If cond holds fails) = around cond (joined (holds ++ fails))
 statement_step (T.While cond turn) = around cond (joined turn)
 
+-- the expressions of a statement, and how deep `if` and `while` stand in one another in it
 unfoldable pub content : Statement Name → Content
 content s = fold-Statement Name Content statement_step s
 
@@ -118,21 +121,24 @@ pub record IsKeptStatement (s : Statement Name) : Type 0 where
   pub marks : All HasFewMarks (content s).expressions
   pub nesting : (content s).depth ≤ max_nesting
 
+-- the arguments of a preprocedure, where there is one
 abbrev pub pre_args : Option (Pre Name) → List (Expr Name)
 pre_args None = []
 pre_args (Some pre) = pre.call.args
 
--- and so on for what consists of statements
+-- an alternative keeps the limits of marks and of nesting
 pub record IsKeptAlternative (a : Alternative Name) : Type 0 where
   pub cond : HasFewMarks a.cond
   pub pre : All HasFewMarks (pre_args a.pre)
   pub body : All IsKeptStatement a.body
 
+-- all statements of a body, or all alternatives, keep the limits of marks and of nesting
 abbrev pub IsKeptForm : Form Name → Type 0
 IsKeptForm (F.Total statements) = All IsKeptStatement statements
 IsKeptForm (F.Partial alternatives) = All IsKeptAlternative alternatives
 IsKeptForm (F.Action alternatives) = All IsKeptAlternative alternatives
 
+-- all procedures of a cat keep the limits of marks and of nesting
 pub record IsKeptCat (c : Cat Name) : Type 0 where
   pub procs : All (λ (q : Proc Name). IsKeptForm q.form) c.procs
 

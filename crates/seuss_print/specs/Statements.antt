@@ -14,6 +14,7 @@ use Rattle.seuss_program.specs.declared.tree.Statement.TheOpen.{Statement-F}
 use Rattle.seuss_print.specs.Items.{Item, Space, symbol, named, spaced, line, bracketed, separated}
 use Rattle.seuss_print.specs.Expressions.{expression}
 
+-- the keyword of a type
 abbrev pub kind_symbol : Kind → Symbol
 kind_symbol K.Int = S.Int
 kind_symbol K.Bool = S.Bool
@@ -37,14 +38,16 @@ call_items call =
 abbrev pub Lines : Type 0
 Lines = ℕ → List Item
 
--- `let name : kind := value`, `name := value` and a call with the name that it is bound to
+-- the line `let name : kind := value`
 abbrev pub let_line : Name → Kind → Expr Name → Lines
 let_line name kind value n =
     line n (symbol S.Let ∷ Space ∷ typed name kind ++ spaced (symbol S.Assign) ++ expression value)
 
+-- the line `name := value`
 abbrev pub assignment_line : Name → Expr Name → Lines
 assignment_line name value n = line n (named name ∷ spaced (symbol S.Assign) ++ expression value)
 
+-- the line of a call, with the name that takes its result
 abbrev pub call_line : Option Name → Call Name → Lines
 call_line bind call n = line n (binding bind ++ call_items call)
 
@@ -52,7 +55,7 @@ call_line bind call n = line n (binding bind ++ call_items call)
 abbrev pub head_line : Symbol → Expr Name → Symbol → Lines
 head_line first cond last n = line n (symbol first ∷ Space ∷ expression cond ++ Space ∷ symbol last ∷ [])
 
--- the lines of statements, one behind the other
+-- the lines of statements, one after the other
 abbrev pub in_turn : List Lines → Lines
 in_turn statements n = flat_map (λ (lines : Lines). lines n) statements
 
@@ -71,6 +74,7 @@ statement_step (T.If cond holds fails) n =
 statement_step (T.While cond turn) n =
     head_line S.While cond S.Do n ++ in_turn turn (n + 1) ++ line n (symbol S.End ∷ [])
 
+-- the lines of a statement
 unfoldable pub statement : Statement Name → Lines
 statement s = fold-Statement Name Lines statement_step s
 

@@ -1,3 +1,5 @@
+//! Alternatives, procedures, variables, certificates, cats and boxes in the canonical text.
+
 ghost use Rattle.std.specs.Prelude.{◌≡◌, ◌<◌, ◌++◌, length, drop, slice_get, Some, All, OnOk};
 ghost use Rattle.std.specs.List.{flat_map};
 ghost use Rattle.seuss_parser.specs.Symbols.{symbol_text};

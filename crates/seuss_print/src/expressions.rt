@@ -1,3 +1,5 @@
+//! Expressions in the canonical text, with parentheses where their place asks for them.
+
 ghost use Rattle.std.specs.Prelude.{◌≡◌, [], ◌∷◌, ◌++◌, OnOk};
 ghost use Rattle.seuss_parser.specs.Symbols.{symbol_text};
 ghost use Rattle.seuss_print.specs.Items.{text_of};

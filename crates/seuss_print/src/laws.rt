@@ -1,3 +1,5 @@
+//! Laws of the canonical text: what is printable, and that parentheses stand where they are needed.
+
 ghost use Rattle.std.specs.Prelude.{◌≡◌, ◌↔◌, ℕ, ◌≤◌, List, length, All};
 ghost use Rattle.seuss_text.specs.Limits.{AreInLimits};
 ghost use Rattle.seuss_text.specs.Rows.{AreTokens};

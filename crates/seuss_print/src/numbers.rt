@@ -1,3 +1,5 @@
+//! Numbers in decimal digits.
+
 ghost use Rattle.std.specs.Prelude.{◌≡◌, ◌++◌, decimal, OnOk};
 ghost use Rattle.std.specs.Fmt.{signed_decimal};
 ghost use Rattle.seuss_print.specs.Items.{text_of};

@@ -1,3 +1,5 @@
+//! Names, types, calls and statements in the canonical text.
+
 ghost use Rattle.std.specs.Prelude.{◌≡◌, [], ◌∷◌, ◌++◌, ◌+◌, ◌<◌, ◌^◌, All, OnOk};
 ghost use Rattle.std.specs.List.{flat_map};
 ghost use Rattle.seuss_parser.specs.Symbols.{symbol_text};

@@ -1,3 +1,5 @@
+//! Whole trees in the canonical text.
+
 ghost use Rattle.std.specs.Prelude.{◌≡◌, ◌++◌, All, IfOk, OnOk};
 ghost use Rattle.std.specs.List.{flat_map};
 ghost use Rattle.seuss_parser.specs.Spelling.{Spells};

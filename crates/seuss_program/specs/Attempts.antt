@@ -32,7 +32,7 @@ first_value K.Int = V.Int (pos 0)
 first_value K.Bool = V.Bool false
 first_value K.Seq = V.Seq []
 
--- the locals that a statement declares, in the order of the text
+-- the locals that one statement declares, over those of the statements inside it
 abbrev pub locals_step : Statement-F Ref (List Value) → List Value
 locals_step (S.Let name kind e) = first_value kind ∷ []
 locals_step (S.Assign name e) = []
@@ -40,6 +40,7 @@ locals_step (S.Call name call) = []
 locals_step (S.If cond holds fails) = flat_map (λ vs. vs) holds ++ flat_map (λ vs. vs) fails
 locals_step (S.While cond turn) = flat_map (λ vs. vs) turn
 
+-- the locals that a statement declares, in the order of the text
 unfoldable pub locals_of : Statement Ref → List Value
 locals_of s = fold-Statement Ref (List Value) locals_step s
 
@@ -52,6 +53,8 @@ bound_local (Some pre) = name_local pre.bind
     name_local None = []
     name_local (Some name) = V.Int (pos 0) ∷ []
 
+-- the locals of a procedure: of each alternative the bound one and those of its body, in the order of the
+-- text
 abbrev pub form_locals : Form Ref → List Value
 form_locals (F.Total ss) = flat_map locals_of ss
 form_locals (F.Partial alts) = flat_map
@@ -84,7 +87,7 @@ abbrev pub ended : Outcome → State → ℕ → Called
 ended outcome state budget = record { outcome = outcome; result = None; state = state; budget = budget }
 
 module _ (p : Program) (callee : Callee) (box : ℕ) (q : Proc Ref) where
-  -- the body of an alternative, behind its preprocedure
+  -- the body of an alternative, after its preprocedure
   abbrev pub body_of : Alternative Ref → State → List Value → ℕ → Called
   body_of alt state slots budget = let ran = body p callee box alt.body state slots budget in
       finished alt.positive q ran.finish ran
@@ -151,12 +154,12 @@ action_attempt p None state budget = ended O.Rejected state budget
 action_attempt p (Some a) state budget = attempt p (suc (level_of p a.box_number)) a.box_number a.procedure
     [] state budget
 
--- The outcomes of attempts of these actions one after the other, each with the whole budget, and the
--- state after all of them.
+-- the outcomes of attempts one after the other, and the state after all of them
 pub record TightRun : Type 0 where
   pub outcomes : List Outcome
   pub state : State
 
+-- Attempts of these actions one after the other, each with the whole budget, from a state.
 abbrev pub tight : Program → List ℕ → State → ℕ → TightRun
 tight p [] state budget = record { outcomes = []; state = state }
 tight p (a ∷ actions) state budget =

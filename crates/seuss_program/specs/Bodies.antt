@@ -72,6 +72,7 @@ arguments_after values [] vars slots = Ok values
 arguments_after values (e ∷ es) vars slots =
     argument_then (value e vars slots) values (λ more. arguments_after more es vars slots)
 
+-- the values of arguments, from left to right, or the first trap
 abbrev pub arguments : List (Expr Ref) → List Value → List Value → Result (List Value) Trap
 arguments es vars slots = arguments_after [] es vars slots
 
@@ -148,6 +149,7 @@ module _ (p : Program) (callee : Callee) (box : ℕ) where
   paid_call name target method args state slots (suc left) =
       let called = callee target method args state left in returned called.outcome name called slots
 
+  -- a call whose arguments were evaluated
   abbrev pub call_with : Option Ref → Call Ref → Result (List Value) Trap → Meaning
   call_with name call (Err t) state slots budget =
       record { state = state; slots = slots; budget = budget; finish = Trapped t }
@@ -167,6 +169,7 @@ module _ (p : Program) (callee : Callee) (box : ℕ) where
   statement_step (S.While cond turn) state slots budget =
       looped box budget cond (in_turn turn) state slots budget
 
+  -- what a statement does
   unfoldable pub statement : Statement Ref → Meaning
   statement s = fold-Statement Ref Meaning statement_step s
 

@@ -11,11 +11,12 @@ use Rattle.seuss_program.specs.declared.state.Value.TheVariants as V
 use Rattle.seuss_program.specs.declared.state.Vars.{Vars}
 use Rattle.seuss_program.specs.declared.state.State.{State}
 
--- the start values of a cat's variables
+-- the start values of a cat's variables; a cat that isn't there has none
 abbrev pub starts_in : Option (Cat Ref) → List Value
 starts_in None = []
 starts_in (Some c) = map (λ (v : Var). v.start) c.vars
 
+-- the variables of a box with the start values of its cat
 abbrev pub starts_of : List (Cat Ref) → BoxInfo → Vars
 starts_of cats b = record { values = starts_in (slice_get cats b.cat) }
 
@@ -31,5 +32,6 @@ initial_boxes cats input (b ∷ bs) =
     if b.cat == 0 then with_input input (starts_of cats b) ∷ map (starts_of cats) bs
     else starts_of cats b ∷ initial_boxes cats input bs
 
+-- the state in which a program starts with this input
 abbrev pub initial : Program → List ℤ → State
 initial p input = record { boxes = initial_boxes p.cats input p.boxes }

@@ -66,10 +66,11 @@ abbrev pub is_of : Kind → Option Kind → Bool
 is_of k None = false
 is_of k (Some found) = is_kind k found
 
--- the kinds of variables, and of parameters
+-- the kinds of variables
 abbrev pub var_kinds : List Var → List Kind
 var_kinds vars = map (λ (v : Var). v.kind) vars
 
+-- the kinds of parameters
 abbrev pub param_kinds : List Param → List Kind
 param_kinds params = map (λ (x : Param). x.kind) params
 
@@ -86,6 +87,7 @@ pub record Scope : Type 0 where
   pub slots : List Kind
   pub params : ℕ
 
+-- what the text of a procedure of a cat sees
 abbrev pub scope_of : List (Cat Ref) → Cat Ref → Proc Ref → Scope
 scope_of cats c q = record {
   cats = cats;
@@ -192,16 +194,19 @@ method_at (R.Cat number) c = None
 abbrev pub called : Scope → Call Ref → Option (Proc Ref)
 called s call = option_and_then (method_at call.method) (given_cat s call.target)
 
+-- whether a procedure is total
 abbrev pub is_total : Form Ref → Bool
 is_total (F.Total ss) = true
 is_total (F.Partial alts) = false
 is_total (F.Action alts) = false
 
+-- whether a procedure is a partial method
 abbrev pub is_partial : Form Ref → Bool
 is_partial (F.Total ss) = false
 is_partial (F.Partial alts) = true
 is_partial (F.Action alts) = false
 
+-- whether a procedure is an action
 abbrev pub is_action : Form Ref → Bool
 is_action (F.Total ss) = false
 is_action (F.Partial alts) = false
@@ -225,6 +230,7 @@ meets s form bind args None = false
 meets s form bind args (Some q) = form q.form &&
     (arguments_fit s args (param_kinds q.params) && bind_fits s bind q.gives)
 
+-- whether a call is one of a procedure of this form, with its arguments and its result
 abbrev pub call_fits : Scope → (Form Ref → Bool) → Option Ref → Call Ref → Bool
 call_fits s form bind call = meets s form bind call.args (called s call)
 
@@ -233,6 +239,7 @@ abbrev pub assigns : Scope → Option Kind → Expr Ref → Bool
 assigns s None e = false
 assigns s (Some k) e = is_of k (kind_in s e)
 
+-- whether all of these are true
 abbrev pub all_true : List Bool → Bool
 all_true [] = true
 all_true (b ∷ bs) = b && all_true bs
@@ -250,6 +257,7 @@ statement_step s (S.While cond turn) = is_of K.Bool (kind_in s cond) && all_true
 unfoldable pub statement_fits : Scope → Statement Ref → Bool
 statement_fits s t = fold-Statement Ref Bool (statement_step s) t
 
+-- whether each name, kind and call of a body is right
 abbrev pub body_fits : Scope → List (Statement Ref) → Bool
 body_fits s [] = true
 body_fits s (t ∷ ts) = statement_fits s t && body_fits s ts
@@ -259,9 +267,11 @@ abbrev pub pre_fits : Scope → Option (Pre Ref) → Bool
 pre_fits s None = true
 pre_fits s (Some pre) = call_fits s is_partial pre.bind pre.call
 
+-- whether each name, kind and call of an alternative is right
 abbrev pub alternative_fits : Scope → Alternative Ref → Bool
 alternative_fits s a = is_of K.Bool (kind_in s a.cond) && (pre_fits s a.pre && body_fits s a.body)
 
+-- whether each name, kind and call of these alternatives is right
 abbrev pub alternatives_fit : Scope → List (Alternative Ref) → Bool
 alternatives_fit s [] = true
 alternatives_fit s (a ∷ alts) = alternative_fits s a && alternatives_fit s alts
@@ -290,11 +300,12 @@ pub record KeepsHint (c : Cat Ref) (hint : Hint Ref) : Type 0 where
       × (slice_get (var_kinds c.vars) number ≡ Some K.Seq)
   pub depth : hint.depth ≤ 4
 
--- a certificate names a method, and then a total one
+-- whether a procedure is there and its form passes the test
 abbrev pub is_method_where : (Form Ref → Bool) → Option (Proc Ref) → Bool
 is_method_where form None = false
 is_method_where form (Some q) = form q.form
 
+-- a certificate names a method, then a total one, and its hints are right
 pub record KeepsSemi (c : Cat Ref) (semi : Semi Ref) : Type 0 where
   pub first : IsTrue (is_method_where (λ form. not (is_action form)) (method_at semi.first c))
   pub second : IsTrue (is_method_where is_total (method_at semi.second c))
@@ -323,7 +334,7 @@ abbrev pub above : List ℕ → ℕ
 above [] = 0
 above (n ∷ ns) = max (n + 1) (above ns)
 
--- whether boxes are there and of the declared cats, one for each given box of the cat
+-- whether a box is there and of this cat
 abbrev pub is_box_of : Option BoxInfo → Ref → Bool
 is_box_of (Some b) (R.Cat number) = b.cat == number
 is_box_of (Some b) (R.Var number) = false
@@ -332,6 +343,7 @@ is_box_of (Some b) (R.Given number) = false
 is_box_of (Some b) (R.Method number) = false
 is_box_of None name = false
 
+-- whether boxes are there and of the declared cats, one for each given box of the cat
 abbrev pub given_fit : List BoxInfo → List ℕ → List (Given Ref) → Bool
 given_fit boxes [] [] = true
 given_fit boxes [] (g ∷ gs) = false
@@ -352,6 +364,7 @@ actions_among box number (q ∷ qs) =
     ∷ actions_among box (number + 1) qs
     else actions_among box (number + 1) qs
 
+-- the procedures of a cat; a cat that isn't there has none
 abbrev pub procedures_in : Option (Cat Ref) → List (Proc Ref)
 procedures_in None = []
 procedures_in (Some c) = c.procs

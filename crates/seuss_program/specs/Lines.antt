@@ -20,7 +20,7 @@ abbrev pub IsIn : {A : Type 0} → A → List A → Type 0
 IsIn x [] = ⊥
 IsIn x (y ∷ ys) = (y ≡ x) ⊎ IsIn x ys
 
--- the calls in a statement, in the order of the text
+-- the calls of one statement, over those of the statements inside it
 abbrev pub calls_step : Statement-F Ref (List (Call Ref)) → List (Call Ref)
 calls_step (S.Let name kind e) = []
 calls_step (S.Assign name e) = []
@@ -28,6 +28,7 @@ calls_step (S.Call name call) = call ∷ []
 calls_step (S.If cond holds fails) = flat_map (λ cs. cs) holds ++ flat_map (λ cs. cs) fails
 calls_step (S.While cond turn) = flat_map (λ cs. cs) turn
 
+-- the calls in a statement, in the order of the text
 unfoldable pub calls_of : Statement Ref → List (Call Ref)
 calls_of s = fold-Statement Ref (List (Call Ref)) calls_step s
 
@@ -37,11 +38,12 @@ body_calls (F.Total ss) = flat_map calls_of ss
 body_calls (F.Partial alts) = flat_map (λ (a : Alternative Ref). flat_map calls_of a.body) alts
 body_calls (F.Action alts) = flat_map (λ (a : Alternative Ref). flat_map calls_of a.body) alts
 
--- the preprocedures that it calls
+-- the preprocedure of an alternative, where there is one
 abbrev pub pre_calls : Option (Pre Ref) → List (Call Ref)
 pre_calls None = []
 pre_calls (Some pre) = pre.call ∷ []
 
+-- the preprocedures that a procedure calls
 abbrev pub early_calls : Form Ref → List (Call Ref)
 early_calls (F.Total ss) = []
 early_calls (F.Partial alts) = flat_map (λ (a : Alternative Ref). pre_calls a.pre) alts

@@ -18,19 +18,21 @@ cat_of p box = option_and_then (λ (b : BoxInfo). slice_get p.cats b.cat) (slice
 abbrev pub procedure_of : Program → ℕ → ℕ → Option (Proc Ref)
 procedure_of p box number = option_and_then (λ (c : Cat Ref). slice_get c.procs number) (cat_of p box)
 
--- the level of a box
+-- the level of a box; one that isn't there has level 0
 abbrev pub level_in : Option BoxInfo → ℕ
 level_in None = 0
 level_in (Some b) = b.level
 
+-- the level of the box of this number
 abbrev pub level_of : Program → ℕ → ℕ
 level_of p box = level_in (slice_get p.boxes box)
 
--- the box that a name of a given box stands for, as a box sees it
+-- the given box of this number of a box; what isn't there stands for box 0
 abbrev pub given_in : Option BoxInfo → ℕ → ℕ
 given_in None number = 0
 given_in (Some b) number = slice_index_or b.given number 0
 
+-- the box that a name of a given box stands for, as a box sees it
 abbrev pub target_of : Program → ℕ → Ref → ℕ
 target_of p box (R.Given number) = given_in (slice_get p.boxes box) number
 target_of p box (R.Var number) = 0

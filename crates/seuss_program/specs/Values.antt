@@ -21,17 +21,19 @@ use Rattle.seuss_program.specs.declared.tree.Node.TheOpen as N
 use Rattle.seuss_program.specs.declared.tree.Node.TheOpen.{Node-F, Expr-F}
 use Rattle.seuss_program.specs.declared.tree.Expr.{Expr, fold-Expr}
 
--- the number, the bool and the sequence that a value is
+-- the number that a value is; a value of another kind stands for 0
 abbrev pub int_of : Value → ℤ
 int_of (V.Int z) = z
 int_of (V.Bool b) = pos 0
 int_of (V.Seq zs) = pos 0
 
+-- the bool that a value is; a value of another kind stands for false
 abbrev pub bool_of : Value → Bool
 bool_of (V.Int z) = false
 bool_of (V.Bool b) = b
 bool_of (V.Seq zs) = false
 
+-- the sequence that a value is; a value of another kind stands for the empty one
 abbrev pub seq_of : Value → List ℤ
 seq_of (V.Int z) = []
 seq_of (V.Bool b) = []
@@ -60,20 +62,22 @@ exact z = if fits z then Ok (V.Int z) else Err Overflow
 abbrev pub wrapped : ℤ → Evaluated
 wrapped z = Ok (V.Int (int_wrap w64 z))
 
--- truncates toward zero; the remainder has the sign of the dividend
+-- division, which truncates toward zero
 abbrev pub quotient : ℤ → ℤ → Evaluated
 quotient x y = if int_eq y (pos 0) then Err ZeroDivisor else exact (int_div x y)
 
+-- the remainder of a division, with the sign of the dividend
 abbrev pub remainder : ℤ → ℤ → Evaluated
 remainder x y =
     if int_eq y (pos 0) then Err ZeroDivisor
     else (if fits (int_div x y) then Ok (V.Int (int_rem x y)) else Err Overflow)
 
--- the element at a place, counted from 0
+-- an element that is there, or a trap
 abbrev pub found : Option ℤ → Evaluated
 found None = Err OutOfRange
 found (Some z) = Ok (V.Int z)
 
+-- the element at a place, counted from 0
 abbrev pub element : List ℤ → ℤ → Evaluated
 element zs (pos n) = found (slice_get zs n)
 element zs (negsuc n) = Err OutOfRange
@@ -108,11 +112,12 @@ apply O.Remainder x y = remainder (int_of x) (int_of y)
 apply O.At x y = element (seq_of x) (int_of y)
 apply O.Add x y = Ok (V.Seq (seq_of x ++ int_of y ∷ []))
 
--- a function of a sequence that isn't empty
+-- a value that is taken from a sequence, which may not be empty
 abbrev pub of_some : List ℤ → Value → Evaluated
 of_some [] v = Err EmptySequence
 of_some (z ∷ zs) v = Ok v
 
+-- what a function of a sequence gives
 abbrev pub measure : Fun → List ℤ → Evaluated
 measure F.First zs = of_some zs (V.Int (slice_index_or zs 0 (pos 0)))
 measure F.Last zs = of_some zs (V.Int (slice_index_or zs (length zs - 1) (pos 0)))
@@ -146,6 +151,7 @@ pub record Part : Type 0 where
 abbrev pub plain : (List Value → List Value → Evaluated) → Part
 plain value = record { digits = false; literal = false; value = value; beside = value }
 
+-- whether an operator compares
 abbrev pub is_comparison : Op → Bool
 is_comparison O.Eq = true
 is_comparison O.Ne = true

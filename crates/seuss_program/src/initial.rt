@@ -1,3 +1,5 @@
+//! The state in which a program starts.
+
 ghost use Rattle.std.specs.Prelude.{◌≡◌, map, IfOk};
 ghost use Rattle.seuss_program.specs.Initials.{initial, initial_boxes, starts_in, starts_of, with_input};
 

@@ -1,3 +1,5 @@
+//! Outcomes of attempts, orders of attempts, and the last line of a report.
+
 use seuss_base::{List, Outcome, Trap};
 
 /// The outcomes of attempts, in their order.
@@ -6,7 +8,7 @@ pub struct Outcomes {
     pub list: List<Outcome>,
 }
 
-/// An attempt in a printed order. Attempt `a` of `n` actions is action `a % n` in round `a / n`.
+/// An attempt in a printed order. Attempt `a` of `n` slots is that of slot `a % n` in round `a / n`.
 #[derive(Clone, Copy, Debug, PartialEq, Eq)]
 pub struct Placed {
     pub attempt: u64,

@@ -1,3 +1,5 @@
+//! Checked programs: cats whose names are numbers, boxes with their levels, and actions.
+
 use crate::{Cat, Name, Ref};
 use seuss_base::List;
 

@@ -1,3 +1,5 @@
+//! Values, and the variables of all boxes.
+
 ghost use Rattle.std.specs.Prelude.{◌≡◌, IfOk};
 
 use seuss_base::{Ints, List, Memory};

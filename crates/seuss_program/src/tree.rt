@@ -1,3 +1,5 @@
+//! Trees of texts, over the names of a text or the numbers of a program.
+
 ghost use Rattle.std.specs.Prelude.{◌≡◌, ◌↔◌, IsTrue, IfOk};
 ghost use Rattle.std.specs.Str.{bytes_eq};
 

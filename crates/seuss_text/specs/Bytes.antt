@@ -2,6 +2,7 @@
 use Rattle.std.specs.Prelude.{ℕ, Bool, ◌==◌, ◌||◌}
 use Rattle.std.specs.Char.{is_ascii_alphanumeric}
 
+-- the byte that ends a line
 abbrev pub line_feed : ℕ
 line_feed = 10
 

@@ -6,12 +6,15 @@ use Rattle.seuss_text.specs.declared.token.Token.{Token}
 use Rattle.seuss_text.specs.declared.token.TokenKind.{TokenKind}
 use Rattle.seuss_text.specs.declared.token.TokenKind.TheVariants.{Name, Number, Sign, Keyword}
 
+-- how many bytes a text has at most
 abbrev pub max_text : ℕ
 max_text = 1048576
 
+-- how many bytes a name has at most
 abbrev pub max_name : ℕ
 max_name = 32
 
+-- the greatest number in digits
 abbrev pub max_number : ℕ
 max_number = 9223372036854775807
 
@@ -34,6 +37,6 @@ IsInLimit Keyword word = Unit {0}
 abbrev pub IsTokenInLimit : List ℕ → Token → Type 0
 IsTokenInLimit text token = IsInLimit token.kind (token_text text token)
 
--- each of these tokens is
+-- each of these tokens of a text is within its limit
 abbrev pub AreInLimits : List ℕ → List Token → Type 0
 AreInLimits text tokens = All (λ token. IsTokenInLimit text token) tokens

@@ -26,14 +26,14 @@ sign_len (a ∷ []) = if is_among signs (a ∷ []) then Some 1 else None
 sign_len (a ∷ b ∷ rest) =
     if is_among signs (a ∷ b ∷ []) then Some 2 else (if is_among signs (a ∷ []) then Some 1 else None)
 
--- What is left behind the white space and comments at the front, where a comment is open there or not.
+-- What is left after the white space and comments at the front, where a comment is open there or not.
 abbrev pub after_gap : List ℕ → Bool → List ℕ
 after_gap [] open_comment = []
 after_gap (b ∷ bs) true = after_gap bs (not (b == line_feed))
 after_gap (b ∷ bs) false =
     if b == hash then after_gap bs true else (if is_white b then after_gap bs false else b ∷ bs)
 
--- The next step of the reader behind `before`: a token within its limit, the end, or a fault.
+-- The next step of the reader after `before`: a token within its limit, the end, or a fault.
 abbrev pub Steps : List ℕ → List ℕ → Result (Option Token) TextRefusal → Type 0
 Steps before text (Ok None) = IsLastGap text
 Steps before text (Ok (Some token)) =

@@ -10,7 +10,7 @@ use Rattle.seuss_text.specs.declared.token.Tokens.{Tokens}
 use Rattle.seuss_text.specs.declared.refusal.TextRefusal.{TextRefusal}
 use Rattle.seuss_text.specs.declared.refusal.TextRefusal.TheVariants.{Memory}
 
--- Behind `passed` come a gap and, at this line, a byte that begins no token.
+-- After `passed` come a gap and, at this line, a byte that begins no token.
 pub record HasBadByte (passed rest : List ℕ) (line : ℕ) : Type 0 where
   pub gap : List ℕ
   pub byte : ℕ
@@ -22,14 +22,14 @@ pub record HasBadByte (passed rest : List ℕ) (line : ℕ) : Type 0 where
   pub none : BeginsNoToken (byte ∷ after)
   pub line_is : line ≡ line_after (passed ++ gap)
 
--- Behind some tokens within their limits comes, at this line, a byte that begins no token.
+-- After some tokens within their limits comes, at this line, a byte that begins no token.
 abbrev pub BadByteAt : List ℕ → ℕ → Type 0
 BadByteAt text line =
     (tokens : List Token) × (passed rest : List ℕ) × Row tokens [] text passed rest ×
     AreInLimits text tokens ×
     HasBadByte passed rest line
 
--- Behind some tokens within their limits comes, at this line, one that is past its limit.
+-- After some tokens within their limits comes, at this line, one that is past its limit.
 abbrev pub RangeAt : List ℕ → ℕ → Type 0
 RangeAt text line =
     (tokens : List Token) × (token : Token) × (passed rest : List ℕ) ×

@@ -6,11 +6,11 @@ use Rattle.seuss_text.specs.Gaps.{IsGap, IsLastGap}
 use Rattle.seuss_text.specs.Words.{kind_of, IsLongest}
 use Rattle.seuss_text.specs.declared.token.Token.{Token}
 
--- the line of what stands behind these bytes: 1, and the number of line feeds before it
+-- the line of what stands after these bytes: 1, and the number of line feeds before it
 abbrev pub line_after : List ℕ → ℕ
 line_after before = 1 + count_by (λ b. b == line_feed) before
 
--- Behind `before` come a gap, the word of this token, as long as possible, and the rest of the text.
+-- After `before` come a gap, the word of this token, as long as possible, and the rest of the text.
 pub record Stands (before gap word rest : List ℕ) (token : Token) : Type 0 where
   pub is_gap : IsGap gap
   pub kind : kind_of word ≡ Some token.kind
@@ -19,7 +19,7 @@ pub record Stands (before gap word rest : List ℕ) (token : Token) : Type 0 whe
   pub stop : token.stop ≡ token.start + length word
   pub line : token.line ≡ line_after (before ++ gap)
 
--- These tokens stand one behind the other at the front of `text`, behind which `rest` is left. What
+-- These tokens stand one after the other at the front of `text`, after which `rest` is left. What
 -- stands before the text is `before`, and what stands before the rest is `passed`.
 abbrev pub Row : List Token → List ℕ → List ℕ → List ℕ → List ℕ → Type 0
 Row [] before text passed rest = (passed ≡ before) × (rest ≡ text)
@@ -27,7 +27,7 @@ Row (token ∷ tokens) before text passed rest =
     (gap word after : List ℕ) × (text ≡ gap ++ (word ++ after)) × Stands before gap word after token ×
     Row tokens (before ++ (gap ++ word)) after passed rest
 
--- These are the tokens of the text: behind them nothing is left but a gap.
+-- These are the tokens of the text: after them nothing is left but a gap.
 abbrev pub AreTokens : List ℕ → List Token → Type 0
 AreTokens text tokens = (passed rest : List ℕ) × Row tokens [] text passed rest × IsLastGap rest
 

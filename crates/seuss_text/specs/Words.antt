@@ -8,12 +8,14 @@ use Rattle.seuss_text.specs.Bytes.{is_name_byte}
 use Rattle.seuss_text.specs.declared.token.TokenKind.{TokenKind}
 use Rattle.seuss_text.specs.declared.token.TokenKind.TheVariants.{Name, Number, Sign, Keyword}
 
+-- all signs, as their texts
 unfoldable pub signs : List (List ℕ)
 signs =
     codes ":=" ∷ codes "->" ∷ codes "~>" ∷ codes "<>" ∷ codes "<=" ∷ codes ">=" ∷ codes "&+" ∷ codes "&-" ∷
     codes ":" ∷ codes ";" ∷ codes "," ∷ codes "." ∷ codes "(" ∷ codes ")" ∷ codes "[" ∷ codes "]" ∷
     codes "=" ∷ codes "<" ∷ codes ">" ∷ codes "+" ∷ codes "-" ∷ codes "*" ∷ codes "/" ∷ codes "%" ∷ []
 
+-- all keywords, as their texts
 unfoldable pub keywords : List (List ℕ)
 keywords =
     codes "seuss" ∷ codes "cat" ∷ codes "box" ∷ codes "var" ∷ codes "total" ∷ codes "partial" ∷
@@ -26,7 +28,7 @@ keywords =
 abbrev pub is_among : List (List ℕ) → List ℕ → Bool
 is_among table word = list_any (λ w. bytes_eq w word) table
 
--- a letter, and behind it letters, digits and `_`
+-- a letter, and after it letters, digits and `_`
 abbrev pub is_letters : List ℕ → Bool
 is_letters [] = false
 is_letters (b ∷ bs) = is_ascii_alphabetic b && list_all is_name_byte bs

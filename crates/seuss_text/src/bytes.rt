@@ -1,3 +1,5 @@
+//! Classes of bytes.
+
 ghost use Rattle.std.specs.Prelude.{◌≡◌};
 ghost use Rattle.seuss_text.specs.Bytes.{is_white, is_name_byte};
 

@@ -1,3 +1,5 @@
+//! White space and comments, and the lines in them.
+
 ghost use Rattle.std.specs.Prelude.{◌≡◌, ◌≤◌, ◌==◌, false, length, drop, count_by};
 ghost use Rattle.seuss_text.specs.Bytes.{line_feed};
 ghost use Rattle.seuss_text.specs.Reading.{after_gap};

@@ -1,3 +1,5 @@
+//! Laws of tokens: a text has one list of them, or one fault.
+
 ghost use Rattle.std.specs.Prelude.{◌≡◌, ℕ, List, All, length, Some};
 ghost use Rattle.seuss_text.specs.Words.{kind_of};
 ghost use Rattle.seuss_text.specs.Rows.{AreTokens, RiseFrom, token_text};

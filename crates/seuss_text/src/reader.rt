@@ -1,3 +1,5 @@
+//! The tokens of a text, read one after the other.
+
 ghost use Rattle.std.specs.Prelude.{◌≡◌, ◌+◌, ◌≤◌, ℕ, List, length, IfOk, IsErrOf, ◌↔◌};
 ghost use Rattle.seuss_text.specs.Rows.{line_after, AreTokens, RiseFrom};
 ghost use Rattle.seuss_text.specs.Limits.{AreInLimits, IsTooLong, max_text};

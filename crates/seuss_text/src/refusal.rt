@@ -1,3 +1,5 @@
+//! Why a text has no tokens.
+
 ghost use Rattle.std.specs.Prelude.{◌≡◌};
 ghost use Rattle.seuss_text.specs.declared.refusal.TextRefusal.TheVariants.{Memory as OutOfMemory};
 

@@ -1,3 +1,5 @@
+//! The bytes of a token, and the value of a number.
+
 ghost use Rattle.std.specs.Prelude.{◌≡◌, ◌<◌, ◌≤◌, length, slice_range, slice_index_or, Some};
 ghost use Rattle.seuss_text.specs.Words.{kind_of};
 ghost use Rattle.seuss_text.specs.Rows.{AreTokens, token_text};

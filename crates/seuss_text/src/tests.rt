@@ -1,3 +1,5 @@
+//! Tests of tokens: words, places, lines, limits and refusals.
+
 use crate::{
     TextRefusal, Token, TokenKind, digits_value, is_name, is_white, number_value, token_text,
     tokens,

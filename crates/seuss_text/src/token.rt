@@ -1,3 +1,5 @@
+//! Tokens, as places in their text.
+
 use seuss_base::List;
 
 /// What kind of word a token is. A keyword is none of the names.

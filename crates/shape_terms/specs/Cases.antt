@@ -31,15 +31,17 @@ use Rattle.shape_terms.specs.Texts.{is_variable, in_form}
 abbrev pub atoms_from : ℕ → ℕ → List NumForm
 atoms_from first many = map atom (range_with_len first many)
 
--- The cases of a sequence that is looked at to these depths: each length below their sum, and all lengths
--- from there on.
+-- a sequence of this length, all of whose elements are atoms
 abbrev pub exact_choice : ℕ → ℕ → Symbol
 exact_choice place length = S.Sequence (Q.Exact (atoms_from (8 * place) length))
 
+-- a sequence with so many atoms at each end, and an unknown rest between them
 abbrev pub long_choice : ℕ → ℕ → ℕ → Symbol
 long_choice place front back =
     S.Sequence (Q.Long (atoms_from (8 * place) front) place (atoms_from (8 * place + front) back))
 
+-- the cases of a sequence that is looked at to these depths: each length below their sum, and all lengths
+-- from there on
 abbrev pub sequence_choices : ℕ → ℕ → ℕ → List Symbol
 sequence_choices place front back =
     map (exact_choice place) (range_with_len 0 (front + back)) ++ long_choice place front back ∷ []
@@ -76,26 +78,29 @@ abbrev pub param_choices : ℕ → List Param → List (List Symbol)
 param_choices place [] = []
 param_choices place (x ∷ xs) = var_choices x.kind place true 0 0 ∷ param_choices (place + 1) xs
 
--- each row with each of these behind it
+-- each row with each of these after it
 abbrev pub rows_before : List (List Symbol) → List Symbol → List (List Symbol)
 rows_before rows symbols = flat_map (λ (row : List Symbol). map (λ (s : Symbol). row ++ s ∷ []) symbols) rows
 
--- each way to take one of each behind these rows
+-- each way to take one of each after these rows
 abbrev pub rows_after : List (List Symbol) → List (List Symbol) → List (List Symbol)
 rows_after rows [] = rows
 rows_after rows (symbols ∷ more) = rows_after (rows_before rows symbols) more
 
+-- each way to take one of each
 abbrev pub rows_of : List (List Symbol) → List (List Symbol)
 rows_of choices = rows_after ([] ∷ []) choices
 
--- each row of variables with each row of the first one's parameters and each of the second one's
+-- each row of parameters of the second method with these of the first one and these variables
 abbrev pub cases_with : List Symbol → List Symbol → List (List Symbol) → List Case
 cases_with vars first seconds =
     map (λ (second : List Symbol). record { vars = vars; first = first; second = second }) seconds
 
+-- each row of the first method's parameters with each of the second one's, with these variables
 abbrev pub cases_from : List Symbol → List (List Symbol) → List (List Symbol) → List Case
 cases_from vars firsts seconds = flat_map (λ (first : List Symbol). cases_with vars first seconds) firsts
 
+-- each row of variables with each row of the first method's parameters and each of the second one's
 abbrev pub cases_between : List (List Symbol) → List (List Symbol) → List (List Symbol) → List Case
 cases_between rows firsts seconds = flat_map (λ (vars : List Symbol). cases_from vars firsts seconds) rows
 
@@ -112,27 +117,31 @@ pub record Pair : Type 0 where
   pub second : Proc Ref
   pub hints : List (Hint Ref)
 
+-- a pair of methods of a cat with these hints
 abbrev pub pair_with : Cat Ref → List (Hint Ref) → Proc Ref → Proc Ref → Pair
 pair_with c hints m n = record { cat = c; first = m; second = n; hints = hints }
 
--- a certificate of a cat, and the one of this number of the cat of this number
+-- what a certificate of a cat is about, where its methods are there
 abbrev pub pair_of : Cat Ref → Semi Ref → Option Pair
 pair_of c s =
     option_and_then (λ (m : Proc Ref). option_map (pair_with c s.hints m) (method_at s.second c))
     (method_at s.first c)
 
+-- what the certificate of this number of the cat of this number is about, where it is there
 abbrev pub pair_at : Program → ℕ → ℕ → Option Pair
 pair_at p cat semi =
     option_and_then (λ (c : Cat Ref). option_and_then (pair_of c) (slice_get c.semis semi))
     (slice_get p.cats cat)
 
--- the cases of each variable, and of each parameter of the first and of the second method
+-- the cases of each variable
 abbrev pub choices_of_vars : Pair → List (List Symbol)
 choices_of_vars pair = vars_choices 0 pair.first pair.second pair.hints pair.cat.vars
 
+-- the cases of each parameter of the first method
 abbrev pub choices_of_first : Pair → List (List Symbol)
 choices_of_first pair = param_choices (length pair.cat.vars) pair.first.params
 
+-- the cases of each parameter of the second method
 abbrev pub choices_of_second : Pair → List (List Symbol)
 choices_of_second pair = param_choices (length pair.cat.vars + length pair.first.params) pair.second.params
 

@@ -28,13 +28,15 @@ number form p = int_wrap w64 (form.constant +ℤ total form.atoms p.atoms +ℤ t
 abbrev pub unit : ℕ → List ℤ
 unit at = replicate at (pos 0) ++ pos 1 ∷ []
 
--- an atom, the length of an unknown rest, and a number, as forms
+-- an atom as a form
 abbrev pub atom : ℕ → NumForm
 atom at = record { constant = pos 0; atoms = unit at; lengths = [] }
 
+-- the length of an unknown rest as a form
 abbrev pub rest_len : ℕ → NumForm
 rest_len at = record { constant = pos 0; atoms = []; lengths = unit at }
 
+-- a number as a form
 abbrev pub literal : ℤ → NumForm
 literal z = record { constant = z; atoms = []; lengths = [] }
 
@@ -42,14 +44,14 @@ literal z = record { constant = z; atoms = []; lengths = [] }
 abbrev pub with_times : ℤ → ℤ → ℤ → ℤ
 with_times k x y = int_wrap w64 (x +ℤ int_wrap w64 (k *ℤ y))
 
--- that of two rows, place by place
+-- a row and some times another one, place by place
 abbrev pub rows_with : ℤ → List ℤ → List ℤ → List ℤ
 rows_with k [] [] = []
 rows_with k [] (y ∷ ys) = with_times k (pos 0) y ∷ rows_with k [] ys
 rows_with k (x ∷ xs) [] = with_times k x (pos 0) ∷ rows_with k xs []
 rows_with k (x ∷ xs) (y ∷ ys) = with_times k x y ∷ rows_with k xs ys
 
--- that of two forms: the sum is the one with 1 times the other one, the difference that with -1 times it
+-- a form and some times another one
 abbrev pub forms_with : ℤ → NumForm → NumForm → NumForm
 forms_with k a b = record {
   constant = with_times k a.constant b.constant;
@@ -57,9 +59,11 @@ forms_with k a b = record {
   lengths = rows_with k a.lengths b.lengths;
 }
 
+-- the sum of two forms
 abbrev pub plus : NumForm → NumForm → NumForm
 plus = forms_with (pos 1)
 
+-- the difference of two forms
 abbrev pub minus : NumForm → NumForm → NumForm
 minus = forms_with (negsuc 0)
 

@@ -34,24 +34,27 @@ abbrev pub hidden : ℕ → FormRefusal
 hidden zero = R.MayBeEmpty
 hidden (suc others) = R.NotShown
 
--- the element at an end
+-- the element at an end, or why it isn't given, by how many forms there are on the other side
 abbrev pub shown : Option NumForm → ℕ → Result NumForm FormRefusal
 shown None others = Err (hidden others)
 shown (Some form) others = Ok form
 
+-- the first element, or why the form doesn't give one
 abbrev pub first : Shape → Result NumForm FormRefusal
 first (S.Exact xs) = shown (slice_get xs 0) 0
 first (S.Long xs r ys) = shown (slice_get xs 0) (length ys)
 
+-- the last element, or why the form doesn't give one
 abbrev pub last : Shape → Result NumForm FormRefusal
 last (S.Exact xs) = shown (slice_get xs (length xs - 1)) 0
 last (S.Long xs r ys) = shown (slice_get ys (length ys - 1)) (length xs)
 
--- a list without its first form, and without its last one
+-- a list without its first form, or why it has none
 abbrev pub tail_of : List NumForm → ℕ → Result (List NumForm) FormRefusal
 tail_of [] others = Err (hidden others)
 tail_of (x ∷ xs) others = Ok xs
 
+-- a list without its last form, or why it has none
 abbrev pub start_of : List NumForm → ℕ → Result (List NumForm) FormRefusal
 start_of [] others = Err (hidden others)
 start_of (x ∷ xs) others = Ok (take (length xs) (x ∷ xs))
@@ -61,23 +64,27 @@ abbrev pub taken : {A B : Type 0} → (A → B) → Result A FormRefusal → Res
 taken f (Ok x) = Ok (f x)
 taken f (Err refusal) = Err refusal
 
+-- all but the first element, or why the form doesn't give them
 abbrev pub rest : Shape → Result Shape FormRefusal
 rest (S.Exact xs) = taken S.Exact (tail_of xs 0)
 rest (S.Long xs r ys) = taken (λ zs. S.Long zs r ys) (tail_of xs (length ys))
 
+-- all but the last element, or why the form doesn't give them
 abbrev pub front : Shape → Result Shape FormRefusal
 front (S.Exact xs) = taken S.Exact (start_of xs 0)
 front (S.Long xs r ys) = taken (λ zs. S.Long xs r zs) (start_of ys (length xs))
 
--- the element at a place that each length of the form has: one before the unknown rest is shown
+-- an element that is shown, where there is one
 abbrev pub found : Option NumForm → Result NumForm FormRefusal
 found None = Err R.NotShown
 found (Some form) = Ok form
 
+-- the element at a place that each length of the form has: it is shown before the unknown rest
 abbrev pub shown_at : Shape → ℕ → Result NumForm FormRefusal
 shown_at (S.Exact xs) n = found (slice_get xs n)
 shown_at (S.Long xs r ys) n = found (slice_get xs n)
 
+-- the element at a place that is told, or why the form doesn't give one
 abbrev pub at_literal : Shape → Option ℤ → Result NumForm FormRefusal
 at_literal shape None = Err R.MayBeEmpty
 at_literal shape (Some (negsuc n)) = Err R.MayBeEmpty

@@ -16,6 +16,7 @@ value_at (S.Truth b) p = V.Bool b
 value_at (S.Untold at) p = V.Bool (p.truths at)
 value_at (S.Sequence form) p = V.Seq (items form p)
 
+-- what symbols stand for at a point
 abbrev pub values_at : List Symbol → Point → List Value
 values_at symbols p = map (λ (s : Symbol). value_at s p) symbols
 

@@ -1,3 +1,5 @@
+//! Points at which two forms differ.
+
 ghost use Rattle.std.specs.Prelude.{◌≡◌};
 ghost use Rattle.shape_terms.specs.Points.{point_of};
 

@@ -1,3 +1,5 @@
+//! Cases of a certificate.
+
 use crate::symbol::Symbol;
 use seuss_base::List;
 

@@ -1,3 +1,5 @@
+//! The cases of one variable or parameter.
+
 ghost use Rattle.std.specs.Prelude.{◌≡◌, ◌<◌, ◌≤◌, ◌+◌, ◌*◌, ◌^◌, ◌||◌, ◌&&◌, true, length, All, IfOk};
 ghost use Rattle.seuss_program.specs.declared.tree.Ref.{Ref};
 ghost use Rattle.seuss_program.specs.declared.tree.Hint.{Hint};

@@ -1,3 +1,5 @@
+//! The list of cases of a certificate, where they aren't too many.
+
 ghost use Rattle.std.specs.Prelude.{◌≡◌, ◌≤◌, ◌++◌, ◌+◌, map, length, Some, All, IfOk, OnOk};
 ghost use Rattle.std.specs.Option.{option_copied};
 ghost use Rattle.seuss_program.specs.Keeping.{Keeps, method_at};

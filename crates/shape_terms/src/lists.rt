@@ -1,3 +1,5 @@
+//! Lists of number forms, and what stands at their ends.
+
 ghost use Rattle.std.specs.Prelude.{◌≡◌, ℕ, pos, ◌+◌, ◌++◌, ◌∷◌, [], length, take, IfOk};
 ghost use Rattle.std.specs.Int.{w64, int_wrap};
 ghost use Rattle.std.specs.Option.{option_copied};

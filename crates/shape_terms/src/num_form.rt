@@ -1,3 +1,5 @@
+//! Number forms: sums modulo 2^64 of a number, atoms and lengths of unknown rests.
+
 ghost use Rattle.std.specs.Prelude.{◌≡◌, ◌≢◌, ℕ, ℤ, ◌↔◌, IfOk, Ok, IsTrue, MatchOption};
 ghost use Rattle.std.specs.Int.{w64};
 ghost use Rattle.std.specs.Int.RustNames.{FitsSigned};

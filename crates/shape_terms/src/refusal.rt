@@ -1,3 +1,5 @@
+//! Why a form gives nothing, and why a certificate has no list of cases.
+
 ghost use Rattle.std.specs.Prelude.{◌≡◌};
 ghost use Rattle.shape_terms.specs.declared.refusal.CaseRefusal.TheVariants.{Memory as NoMemory};
 ghost use Rattle.shape_terms.specs.declared.refusal.FormRefusal.TheVariants.{Memory as OutOfMemory};

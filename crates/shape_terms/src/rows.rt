@@ -1,3 +1,5 @@
+//! Rows of coefficients modulo 2^64.
+
 ghost use Rattle.std.specs.Prelude.{◌≡◌, ℕ, ℤ, pos, ◌+ℤ◌, ◌*ℤ◌, ◌++◌, ◌∷◌, [], replicate, slice_index_or};
 ghost use Rattle.std.specs.Prelude.{IfOk};
 ghost use Rattle.std.specs.Prelude.{MatchOption, ◌≢◌, Some, None, ◌&&◌, if◌then◌else◌};

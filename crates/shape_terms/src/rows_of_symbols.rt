@@ -1,3 +1,5 @@
+//! Each way to take one symbol of each place.
+
 ghost use Rattle.std.specs.Prelude.{◌≡◌, ◌++◌, ◌∷◌, [], map, length, List as Items, IfOk, OnOk};
 ghost use Rattle.shape_terms.specs.declared.symbol.Symbol.{Symbol as SymbolOf};
 ghost use Rattle.shape_terms.specs.Cases.{rows_before as rows_before_of, rows_of as rows_by};

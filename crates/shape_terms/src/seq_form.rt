@@ -1,3 +1,5 @@
+//! Sequence forms, with the functions of the notation on them.
+
 ghost use Rattle.std.specs.Prelude.{◌≡◌, ◌≢◌, ℕ, ℤ, ◌+◌, pos, nat_lt, Some, length, IfOk, Ok, IsTrue};
 ghost use Rattle.std.specs.Int.{w64, int_wrap};
 ghost use Rattle.seuss_program.specs.Values.{apply, measure, Evaluated};

@@ -1,3 +1,5 @@
+//! What is known of a sequence: all of its elements, or both ends of it.
+
 use crate::num_form::NumForm;
 use seuss_base::List;
 

@@ -1,3 +1,5 @@
+//! What a variable, a slot or an expression is in a case.
+
 ghost use Rattle.std.specs.Prelude.{◌≡◌, IfOk};
 ghost use Rattle.shape_terms.specs.Points.{TellsApart, point_of};
 ghost use Rattle.shape_terms.specs.Symbols.{value_at};

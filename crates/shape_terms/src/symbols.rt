@@ -1,3 +1,5 @@
+//! Where two symbols differ.
+
 ghost use Rattle.std.specs.Prelude.{◌≡◌, Some};
 ghost use Rattle.shape_terms.specs.declared.symbol.Symbol.TheVariants.{Number, Truth, Untold, Sequence};
 ghost use Rattle.shape_terms.specs.Points.{TellsApart};

@@ -1,3 +1,5 @@
+//! What is taken from a sequence form: an element, or all but one.
+
 ghost use Rattle.std.specs.Prelude.{◌≡◌, ◌++◌, ◌∷◌, [], nat_lt, Some, IfOk};
 ghost use Rattle.shape_terms.specs.Sequences.{at_literal as literal_place, least as least_of};
 ghost use Rattle.shape_terms.specs.Sequences.{first as first_of};

@@ -1,3 +1,5 @@
+//! Where two sequence forms differ.
+
 ghost use Rattle.std.specs.Prelude.{◌≡◌, ◌≢◌, ◌<◌, ◌+◌, ℕ, ℤ, List as Items, length};
 ghost use Rattle.shape_terms.specs.declared.num_form.NumForm.{NumForm as NumFormOf};
 ghost use Rattle.shape_terms.specs.declared.shape.Shape.TheVariants.{Exact, Long};

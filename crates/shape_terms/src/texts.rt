@@ -1,3 +1,5 @@
+//! Whether a variable stands in the text of a procedure.
+
 ghost use Rattle.std.specs.Prelude.{◌≡◌, ◌||◌};
 ghost use Rattle.shape_terms.specs.Texts.{is_variable as names, is_bound as bound_by};
 ghost use Rattle.shape_terms.specs.Texts.{in_expression as expression_has, in_some as some_has};

@@ -1,3 +1,5 @@
+//! What a sequence form stands for where forms are told apart.
+
 ghost use Rattle.std.specs.Prelude.{◌≡◌, ◌++◌, ◌==◌, IfOk, OnOk};
 ghost use Rattle.shape_terms.specs.Points.{point_of};
 ghost use Rattle.shape_terms.specs.Sequences.{numbers as numbers_of, items};

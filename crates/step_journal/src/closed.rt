@@ -1,3 +1,5 @@
+//! Closed journals, with a maker for each entry.
+
 use seuss_base::List;
 
 /// The entries of a closed journal, in their order, with one maker for each.

@@ -1,3 +1,5 @@
+//! The table under a journal, with one method for each kind of step of its rule.
+
 ghost use Rattle.std.specs.Prelude.{◌≡◌, List as Items, ℕ, [], ◌∷◌, ◌++◌, ◌+◌, ◌<◌, ◌^◌};
 ghost use Rattle.std.specs.Prelude.{length, map, All, IfOk};
 ghost use Rattle.step_journal.specs.declared.view.View.TheVariants.{Noted};

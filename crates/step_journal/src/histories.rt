@@ -1,3 +1,5 @@
+//! Legal histories of a box: each step goes on from where the one before it led.
+
 ghost use Rattle.std.specs.Prelude.{List, [], ◌∷◌, ◌++◌};
 ghost use Rattle.step_journal.specs.Histories.{IsLegal};
 

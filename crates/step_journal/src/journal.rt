@@ -1,3 +1,5 @@
+//! Journals: histories that only grow, with notes and shares of their makers.
+
 ghost use Rattle.std.specs.Prelude.{◌≡◌, ℕ, [], ◌∷◌, ◌++◌, ◌+◌, ◌<◌, ◌==◌, length};
 ghost use Rattle.std.specs.Prelude.{sum_by, count_by, All, OnOk, OnErr, IfOk};
 ghost use Rattle.std.specs.List.{AllZip};

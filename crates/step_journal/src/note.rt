@@ -1,3 +1,5 @@
+//! Notes: beginnings of a journal.
+
 use crate::view::View;
 use atomic_table::Badge;
 use std::marker::Model;

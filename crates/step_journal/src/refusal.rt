@@ -1,3 +1,5 @@
+//! Why a cell with a journal refused a call.
+
 /// Why a cell with a journal refused a call.
 #[derive(Clone, Copy, Debug, PartialEq, Eq)]
 pub enum CellRefusal {

@@ -1,3 +1,5 @@
+//! The rule of a journal's table: how its one word, the number of entries, may change.
+
 use crate::view::View;
 use atomic_table::{Join, Play, Split, TableRule};
 use std::marker::{Brand, PhantomData};

@@ -1,3 +1,5 @@
+//! Shares: how many entries of a journal are their maker's.
+
 ghost use Rattle.std.specs.Prelude.{◌≡◌};
 
 use std::marker::Model;

@@ -1,3 +1,5 @@
+//! Tests of journals: entries, notes and shares of several makers.
+
 ghost use Rattle.std.specs.Prelude.{◌≡◌, [], ◌∷◌, IfOk};
 
 use super::*;

@@ -1,3 +1,5 @@
+//! Attempts of actions.
+
 ghost use Rattle.std.specs.Prelude.{◌≡◌, slice_get, IfOk, OnOk};
 ghost use Rattle.seuss_program.specs.Attempts.{action_attempt};
 

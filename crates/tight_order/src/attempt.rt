@@ -1,3 +1,5 @@
+//! Attempts of procedures: alternatives, preprocedures and bodies.
+
 ghost use Rattle.std.specs.Prelude.{◌≡◌, ◌≤◌};
 ghost use Rattle.seuss_program.specs.Programs.{vars_of};
 ghost use Rattle.seuss_program.specs.Bodies.{arguments as arguments_of};

@@ -1,3 +1,5 @@
+//! Statements, loops and calls in bodies.
+
 ghost use Rattle.std.specs.Prelude.{◌≡◌, ◌≤◌};
 ghost use Rattle.seuss_program.specs.Programs.{vars_of};
 ghost use Rattle.seuss_program.specs.Values.{value as value_of};

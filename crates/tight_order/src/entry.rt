@@ -1,3 +1,5 @@
+//! The slots at the entry of a procedure.
+
 ghost use Rattle.std.specs.Prelude.{◌≡◌, [], ◌++◌, pos, slice_index_or, IfOk, OnOk};
 ghost use Rattle.seuss_program.specs.Values.{int_of};
 ghost use Rattle.seuss_program.specs.declared.state.Value.TheVariants.{Int};

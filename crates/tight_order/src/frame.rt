@@ -1,3 +1,5 @@
+//! Where statements run, what a procedure has while it runs, and how it returns.
+
 use seuss_base::List;
 use seuss_program::{Program, Value};
 

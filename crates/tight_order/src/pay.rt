@@ -1,3 +1,5 @@
+//! The budget of an attempt.
+
 ghost use Rattle.tight_order.specs.Answers.{Pays};
 
 use crate::frame::Frame;

@@ -1,3 +1,5 @@
+//! Why an attempt stops before its end.
+
 ghost use Rattle.std.specs.Prelude.{◌≡◌};
 ghost use Rattle.tight_order.specs.declared.stop.Stop.TheVariants.{Memory as OutOfMemory};
 

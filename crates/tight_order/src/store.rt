@@ -1,3 +1,5 @@
+//! Values of expressions on a box, and names that take values.
+
 ghost use Rattle.std.specs.Prelude.{◌≡◌, slice_set, option_map, IfOk, OnOk};
 ghost use Rattle.std.specs.Option.{option_copied};
 ghost use Rattle.seuss_program.specs.Programs.{vars_of, with_var, procedure_of, target_of, method_of};

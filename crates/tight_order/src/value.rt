@@ -1,3 +1,5 @@
+//! Values of expressions, from left to right, with their traps.
+
 ghost use Rattle.std.specs.Prelude.{◌≡◌, ℤ, neg_ℤ, ◌+ℤ◌, ◌-ℤ◌, [], ◌∷◌, ◌++◌, SomeIff, FitsSigned};
 ghost use Rattle.std.specs.Int.{w64, int_wrap};
 ghost use Rattle.seuss_program.specs.Values.{int_of, bool_of, seq_of, same, apply, quotient, remainder};

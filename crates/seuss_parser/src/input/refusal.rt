@@ -1,3 +1,5 @@
+//! Why a text is no input.
+
 ghost use Rattle.std.specs.Prelude.{◌≡◌};
 ghost use Rattle.seuss_parser.specs.declared.input.refusal.InputRefusal.TheVariants.{Memory as OutOfMemory};
 

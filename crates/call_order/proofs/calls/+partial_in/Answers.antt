@@ -1,3 +1,4 @@
+-- Proofs of the goals of `partial_in`.
 use Rattle.std.proofs.Common.{sym, ap, ◌∙◌}
 use Rattle.seuss_program.specs.declared.tree.Ref.{Ref}
 use Rattle.call_order.specs.Calls.{is_partial, lines_of, in_body}

@@ -1,3 +1,4 @@
+-- What lasts over the loop of `first_partial_call`.
 use Rattle.std.proofs.Common.{◌≡◌, drop}
 use Rattle.seuss_program.specs.declared.tree.Ref.{Ref}
 use Rattle.call_order.specs.Calls.{is_partial, in_bodies, in_cats}

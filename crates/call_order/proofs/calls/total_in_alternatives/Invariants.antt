@@ -1,3 +1,4 @@
+-- What lasts over the loop of `total_in_alternatives`.
 use Rattle.std.proofs.Common.{◌≡◌, drop}
 use Rattle.std.specs.List.{flat_map}
 use Rattle.seuss_program.specs.declared.tree.Ref.{Ref}

@@ -1,3 +1,4 @@
+-- What lasts over the loop of `total_in_procedures`.
 use Rattle.std.proofs.Common.{◌≡◌, drop}
 use Rattle.seuss_program.specs.declared.tree.Ref.{Ref}
 use Rattle.call_order.specs.Calls.{is_total, lines_of, in_pres, in_procedures}

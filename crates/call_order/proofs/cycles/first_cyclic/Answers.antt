@@ -1,3 +1,4 @@
+-- Proofs of the goals of `first_cyclic`.
 use Rattle.std.proofs.Common.{◌≡◌, List, Bool, false, refl, ap, subst, ◌∙◌, get_or}
 use Rattle.call_order.proofs.MarkLemmas.{below-next, not_cyclic, no_cycle_by}
 use Rattle.call_order.specs.Cycles.{IsCyclic}

@@ -1,3 +1,4 @@
+-- Proofs of the goals of `given_row`.
 use Rattle.std.proofs.Common.{◌<◌, List, Bool, length, sym, ap, subst, ◌∙◌}
 use Rattle.std.specs.Prelude.{All}
 use Rattle.call_order.specs.Marks.{marked_with}

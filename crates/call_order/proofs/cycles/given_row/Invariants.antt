@@ -1,3 +1,4 @@
+-- What lasts over the loop of `given_row`.
 use Rattle.std.proofs.Common.{◌≡◌, length}
 use Rattle.call_order.specs.Marks.{spread_times, marked_with, no_marks}
 use Rattle.call_order.proofs.cycles.given_row.Given as goal

@@ -1,3 +1,4 @@
+-- Proofs of the goals of `given_rows`.
 use Rattle.std.proofs.Common.{List, Bool, refl, sym, ap, ◌∙◌, arith, get_or, [], subst, ◌<◌, ◌+◌, ℕ}
 use Rattle.std.proofs.lemmas.Grind.{common_steps}
 use Rattle.seuss_program.specs.declared.program.BoxInfo.{BoxInfo}

@@ -1,3 +1,4 @@
+-- What lasts over the loop of `given_rows`.
 use Rattle.std.proofs.Common.{◌≡◌, ℕ, ◌<◌, length, get_or, []}
 use Rattle.call_order.specs.Marks.{KnowsGiven}
 use Rattle.call_order.proofs.cycles.given_rows.Given as goal

@@ -1,3 +1,4 @@
+-- What lasts over the loop of `mark_all`.
 use Rattle.std.proofs.Common.{◌≡◌, drop, length}
 use Rattle.call_order.specs.Marks.{marked_with}
 use Rattle.call_order.proofs.cycles.mark_all.Given as goal

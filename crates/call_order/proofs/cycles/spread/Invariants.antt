@@ -1,3 +1,4 @@
+-- What lasts over the loop of `spread`.
 use Rattle.std.proofs.Common.{◌≡◌, length}
 use Rattle.call_order.specs.Marks.{spread_below}
 use Rattle.call_order.proofs.cycles.spread.Given as goal

@@ -1,3 +1,4 @@
+-- Proofs of the goals of `spread_one`.
 use Rattle.std.proofs.Common.{◌∙◌, sym, ap, subst, if◌then◌else◌, Bool, true, false, ◌≡◌, List, ℕ, get_or}
 use Rattle.call_order.specs.Marks.{marked_with}
 use Rattle.call_order.specs.Cycles.{given_of}

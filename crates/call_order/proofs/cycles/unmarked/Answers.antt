@@ -1,3 +1,4 @@
+-- Proofs of the goals of `unmarked`.
 use Rattle.std.proofs.Common.{refl, ◌∙◌}
 use Rattle.call_order.proofs.MarkLemmas.{no_marks_next}
 use Rattle.call_order.proofs.cycles.unmarked.Goals as goal

@@ -1,3 +1,4 @@
+-- What lasts over the loop of `unmarked`.
 use Rattle.std.proofs.Common.{◌≡◌}
 use Rattle.call_order.specs.Marks.{no_marks}
 use Rattle.call_order.proofs.cycles.unmarked.Given as goal

@@ -1,3 +1,4 @@
+-- Proofs of the goals of `with_levels`.
 use Rattle.std.proofs.Common.{inl, inr, sym, ◌∙◌}
 use Rattle.std.specs.Vec.Iter.{into_iter_items}
 use Rattle.std.specs.Slice.Iter.{iter_rest}

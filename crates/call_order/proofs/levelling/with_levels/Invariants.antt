@@ -1,7 +1,8 @@
+-- What lasts over the loop of `with_levels`.
 use Rattle.std.proofs.Common.{◌≡◌, ◌++◌, length}
 use Rattle.std.specs.Vec.Iter.{into_iter_items, into_iter_len}
 use Rattle.std.specs.Slice.Iter.{iter_rest}
-use Rattle.call_order.specs.Levels.{set_levels}
+use Rattle.call_order.specs.LevelLists.{set_levels}
 use Rattle.call_order.proofs.levelling.with_levels.Given as goal
 
 abbrev pub invariant-loop-info : goal.invariant-loop-info

@@ -1,5 +1,6 @@
+-- What lasts over the loop of `above`.
 use Rattle.std.proofs.Common.{◌≡◌, ◌≤◌, max, drop}
-use Rattle.call_order.specs.Levels.{level_above}
+use Rattle.call_order.specs.LevelLists.{level_above}
 use Rattle.call_order.proofs.levels.above.Given as goal
 
 abbrev pub invariant-loop-number : goal.invariant-loop-number

@@ -1,5 +1,6 @@
+-- What lasts over the loop of `levels`.
 use Rattle.std.proofs.Common.{◌≡◌}
-use Rattle.call_order.specs.Levels.{levels_after}
+use Rattle.call_order.proofs.LevelRounds.{levels_after}
 use Rattle.call_order.proofs.levels.levels.Given as goal
 
 abbrev pub invariant-loop : goal.invariant-loop

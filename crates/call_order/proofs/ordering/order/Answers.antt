@@ -1,3 +1,4 @@
+-- Proofs of the goals of `order`.
 use Rattle.std.proofs.Common.{◌≤◌, length, sym, subst}
 use Rattle.seuss_program.specs.declared.tree.Tree.{Tree}
 use Rattle.seuss_program.specs.declared.program.Program.{Program}

@@ -1,3 +1,4 @@
+-- Proofs of the goals of `order_parts`.
 use Rattle.std.proofs.Common.{◌≡◌, List, sym, ap, subst, ◌∙◌}
 use Rattle.seuss_program.specs.declared.tree.Ref.{Ref}
 use Rattle.seuss_program.specs.declared.tree.Cat.{Cat}

@@ -1,3 +1,4 @@
+-- The clauses of `first_alternative_is_chosen`, each by its lemma.
 use Rattle.meaning_laws.proofs.ChosenAlternatives.{attempt-chosen, attempt-traps, decided}
 use Rattle.meaning_laws.proofs.alternatives.first_alternative_is_chosen.Goals as goal
 

@@ -1,3 +1,4 @@
+-- The clauses of `budgets_never_rise`, each by its lemma.
 use Rattle.seuss_program.specs.Attempts.{attempt}
 use Rattle.meaning_laws.proofs.SpentBudgets.{attempt-never, statement-never, body-never}
 use Rattle.meaning_laws.proofs.budgets.budgets_never_rise.Goals as goal

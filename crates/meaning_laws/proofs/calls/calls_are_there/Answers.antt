@@ -1,3 +1,4 @@
+-- The clauses of `calls_are_there`, each by its lemma.
 use Rattle.seuss_program.specs.Keeping.{scope_of}
 use Rattle.meaning_laws.proofs.CalledProcedures.{call-named, form-is, goes-down, call-matches}
 use Rattle.meaning_laws.proofs.calls.calls_are_there.Goals as goal

@@ -1,3 +1,4 @@
+-- The clauses of `texts_fit`, each by its lemma.
 use Rattle.meaning_laws.proofs.CalledProcedures.{keeps-procedure}
 use Rattle.meaning_laws.proofs.calls.texts_fit.Goals as goal
 

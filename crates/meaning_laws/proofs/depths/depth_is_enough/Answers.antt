@@ -1,3 +1,4 @@
+-- The clauses of `depth_is_enough`, each by its lemma.
 use Rattle.std.proofs.Common.{ap}
 use Rattle.meaning_laws.proofs.LowerCalls.{depth-enough}
 use Rattle.meaning_laws.proofs.depths.depth_is_enough.Goals as goal

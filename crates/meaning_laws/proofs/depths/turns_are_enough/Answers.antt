@@ -1,3 +1,4 @@
+-- The clauses of `turns_are_enough`, each by its lemma.
 use Rattle.seuss_program.specs.Attempts.{attempt}
 use Rattle.meaning_laws.proofs.EnoughTurns.{looped-enough, while-looped}
 use Rattle.meaning_laws.proofs.SpentBudgets.{attempt-never}

@@ -1,5 +1,6 @@
+-- The clauses of `expressions_mean`, each by its lemma.
 use Rattle.meaning_laws.proofs.ExpressionMeanings.{number-means, truth-means, empty-means, name-means}
-use Rattle.meaning_laws.proofs.ExpressionMeanings.{negated-means, inverted-means, measured-means, two-means}
+use Rattle.meaning_laws.proofs.ExpressionMeanings.{negated-means, inverted-means, measured-means}
 use Rattle.meaning_laws.proofs.expressions.expressions_mean.Goals as goal
 
 pub returns : goal.returns
@@ -11,5 +12,4 @@ returns c = record {
   negated = negated-means;
   inverted = inverted-means;
   measured = measured-means;
-  of_two = two-means;
 }

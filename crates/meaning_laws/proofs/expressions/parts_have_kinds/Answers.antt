@@ -1,3 +1,4 @@
+-- The clauses of `parts_have_kinds`, each by its lemma.
 use Rattle.meaning_laws.proofs.ExpressionMeanings.{name-kind, negated-kind, inverted-kind, measured-kind}
 use Rattle.meaning_laws.proofs.ExpressionMeanings.{two-kinds}
 use Rattle.meaning_laws.proofs.expressions.parts_have_kinds.Goals as goal

@@ -1,3 +1,4 @@
+-- The clauses of `bodies_keep_form`, each by its lemma.
 use Rattle.seuss_program.specs.Attempts.{attempt}
 use Rattle.meaning_laws.proofs.KeptForms.{attempt-keeps-form, statement-formed, body-formed}
 use Rattle.meaning_laws.proofs.forms.bodies_keep_form.Goals as goal

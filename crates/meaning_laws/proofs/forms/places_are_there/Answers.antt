@@ -1,3 +1,4 @@
+-- The clauses of `places_are_there`, each by its lemma.
 use Rattle.meaning_laws.proofs.KeptForms.{entry-kinds, variable-kinds}
 use Rattle.meaning_laws.proofs.Results.{result-stands}
 use Rattle.meaning_laws.proofs.forms.places_are_there.Goals as goal

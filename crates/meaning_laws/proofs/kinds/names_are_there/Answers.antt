@@ -1,3 +1,4 @@
+-- The clauses of `names_are_there`, each by its lemma.
 use Rattle.meaning_laws.proofs.ValueKinds.{name-gives, name-stands, kind-set}
 use Rattle.meaning_laws.proofs.kinds.names_are_there.Goals as goal
 

@@ -1,3 +1,4 @@
+-- The clauses of `values_have_kinds`, each by its lemma.
 use Rattle.meaning_laws.proofs.ValueKinds.{value-gives}
 use Rattle.meaning_laws.proofs.kinds.values_have_kinds.Goals as goal
 

@@ -1,3 +1,4 @@
+-- The clauses of `attempts_stay_below`, each by its lemma.
 use Rattle.meaning_laws.proofs.OtherBoxes.{attempt-stays}
 use Rattle.meaning_laws.proofs.rejections.attempts_stay_below.Goals as goal
 

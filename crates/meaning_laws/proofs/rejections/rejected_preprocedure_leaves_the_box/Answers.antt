@@ -1,3 +1,4 @@
+-- The clauses of `rejected_preprocedure_leaves_the_box`, each by its lemma.
 use Rattle.meaning_laws.proofs.ChosenAlternatives.{attempt-rejected}
 use Rattle.meaning_laws.proofs.OtherBoxes.{pre-leaves}
 use Rattle.meaning_laws.proofs.rejections.rejected_preprocedure_leaves_the_box.Goals as goal

@@ -1,3 +1,4 @@
+-- The clauses of `statements_mean`, each by its lemma.
 use Rattle.meaning_laws.proofs.StatementMeanings.{let-means, assign-means, call-means, if-means, while-means}
 use Rattle.meaning_laws.proofs.statements.statements_mean.Goals as goal
 

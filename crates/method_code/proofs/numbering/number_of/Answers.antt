@@ -1,4 +1,4 @@
-use Rattle.std.proofs.Common.{◌≡◌, ◌+◌, ◌<◌, List, length, take, sym, ap, ◌∙◌, arith}
+use Rattle.std.proofs.Common.{◌≡◌, ◌<◌, List, length, take, sym, ap, ◌∙◌, arith}
 use Rattle.seuss_program.specs.declared.tree.Ref.{Ref}
 use Rattle.seuss_program.specs.declared.tree.Cat.{Cat}
 use Rattle.method_code.specs.declared.method.Method.{Method}
@@ -6,8 +6,23 @@ use Rattle.method_code.specs.Codes.{cats_code}
 use Rattle.method_code.proofs.NumberLemmas.{count-through, number-is}
 use Rattle.method_code.proofs.numbering.number_of.Goals as goal
 
-pub procedures_in-before-requires : goal.procedures_in-before-requires
-procedures_in-before-requires c =
+pub returns-in-Ok : goal.returns-in-Ok
+returns-in-Ok c =
+    let within : c.args.procedure < length c.in-Some-get.cat.now.procs =
+    omega (arith, c.len.ensures, c.if-procedure-len.false) in
+    let is = number-is c.args.program.now c.args.box_number c.args.procedure c.in-Some.info.now
+    c.in-Some-get.cat.now (sym c.in-Some.ensures.value) (sym c.in-Some-get.ensures.value) within in
+    let through = count-through c.args.program.now.cats c.in-Some.info.now.cat c.in-Some-get.cat.now
+    (sym c.in-Some-get.ensures.value) in
+    let taken : c.in-Ok.before ≡ length (cats_code (take c.in-Some.info.now.cat c.args.program.now.cats)) =
+    c.in-Ok.ensures.ok ∙ ap (λ (cats : List (Cat Ref)). length (cats_code (take c.in-Some.info.now.cat cats)))
+    c.as_slice-cats.ensures in
+    let count : length c.code.inside.methods ≡ length (cats_code c.args.program.now.cats) =
+    ap (λ (ms : List Method). length ms) (c.code.view_is ∙ c.requires) in
+    omega (arith, c.saturating_add.ensures, is, through, taken, count, c.code.invariant.count, within)
+
+pub returns-in-Err : goal.returns-in-Err
+returns-in-Err c =
     let through = count-through c.args.program.now.cats c.in-Some.info.now.cat c.in-Some-get.cat.now
     (sym c.in-Some-get.ensures.value) in
     let taken : length (cats_code (take c.in-Some.info.now.cat c.as_slice-cats.result.now))
@@ -16,41 +31,4 @@ procedures_in-before-requires c =
     c.as_slice-cats.ensures in
     let count : length c.code.inside.methods ≡ length (cats_code c.args.program.now.cats) =
     ap (λ (ms : List Method). length ms) (c.code.view_is ∙ c.requires) in
-    omega (arith, through, taken, count, c.code.invariant.count)
-
-pub overflow_cast-result-2 : goal.overflow_cast-result-2
-overflow_cast-result-2 c =
-    let through = count-through c.args.program.now.cats c.in-Some.info.now.cat c.in-Some-get.cat.now
-    (sym c.in-Some-get.ensures.value) in
-    let taken : c.procedures_in-before.result ≡ length
-    (cats_code (take c.in-Some.info.now.cat c.args.program.now.cats)) =
-    c.procedures_in-before.ensures ∙ ap
-    (λ (cats : List (Cat Ref)). length (cats_code (take c.in-Some.info.now.cat cats)))
-    c.as_slice-cats.ensures in
-    let count : length c.code.inside.methods ≡ length (cats_code c.args.program.now.cats) =
-    ap (λ (ms : List Method). length ms) (c.code.view_is ∙ c.requires) in
-    omega (arith, through, taken, count, c.code.invariant.count, c.len.ensures, c.if-procedure-len.false)
-
-pub overflow_add-result : goal.overflow_add-result
-overflow_add-result c =
-    let through = count-through c.args.program.now.cats c.in-Some.info.now.cat c.in-Some-get.cat.now
-    (sym c.in-Some-get.ensures.value) in
-    let taken : c.procedures_in-before.result ≡ length
-    (cats_code (take c.in-Some.info.now.cat c.args.program.now.cats)) =
-    c.procedures_in-before.ensures ∙ ap
-    (λ (cats : List (Cat Ref)). length (cats_code (take c.in-Some.info.now.cat cats)))
-    c.as_slice-cats.ensures in
-    let count : length c.code.inside.methods ≡ length (cats_code c.args.program.now.cats) =
-    ap (λ (ms : List Method). length ms) (c.code.view_is ∙ c.requires) in
-    omega (arith, through, taken, count, c.code.invariant.count, c.len.ensures, c.if-procedure-len.false)
-
-pub returns : goal.returns
-returns c =
-    let within : c.args.procedure < length c.in-Some-get.cat.now.procs =
-    omega (arith, c.len.ensures, c.if-procedure-len.false) in
-    ap (λ n. n + c.args.procedure)
-    (c.procedures_in-before.ensures ∙ ap
-    (λ (cats : List (Cat Ref)). length (cats_code (take c.in-Some.info.now.cat cats)))
-    c.as_slice-cats.ensures)
-    ∙ sym (number-is c.args.program.now c.args.box_number c.args.procedure c.in-Some.info.now
-    c.in-Some-get.cat.now (sym c.in-Some.ensures.value) (sym c.in-Some-get.ensures.value) within)
+    absurd (omega (arith, c.in-Err.ensures.err, through, taken, count, c.code.invariant.count))

@@ -1,3 +1,4 @@
+-- Each variable has its line, and at the end none is left.
 use Rattle.std.proofs.lemmas.Slice.Zip.{either_empty_from_Zip}
 use Rattle.report_text.proofs.WritingLemmas.{var_written, vars_all}
 use Rattle.report_text.proofs.ends.push_vars.Goals as goal

@@ -1,3 +1,4 @@
+-- The bytes of a report tell its order.
 use Rattle.report_text.proofs.OrderLemmas.{same_orders}
 use Rattle.report_text.proofs.laws.one_order.Goals as goal
 

@@ -1,3 +1,4 @@
+-- Each action has its lines.
 use Rattle.report_text.specs.MatrixTexts.{certificate_lines, certificates, row_lines}
 use Rattle.report_text.proofs.MatrixLemmas.{number_written}
 use Rattle.report_text.proofs.matrix.matrix_text.Goals as goal

@@ -1,3 +1,4 @@
+-- Each cat takes as many levels as it has certificates.
 use Rattle.std.proofs.Common.{◌++◌, rules}
 use Rattle.report_text.specs.MatrixTexts.{certificate_lines, certificates}
 use Rattle.report_text.proofs.MatrixLemmas.{cat_written}

@@ -1,3 +1,4 @@
+-- The loop over the cats of a program.
 use Rattle.std.proofs.Common.{◌++◌}
 use Rattle.report_text.specs.MatrixTexts.{certificate_lines, certificates}
 use Rattle.report_text.proofs.MatrixLemmas.{HasWritten}

@@ -1,3 +1,4 @@
+-- Each certificate has its line, and at the end none is left.
 use Rattle.std.proofs.lemmas.Slice.Zip.{either_empty_from_Zip}
 use Rattle.report_text.proofs.MatrixLemmas.{certificate_written, certificates_all}
 use Rattle.report_text.proofs.matrix.push_certificates.Goals as goal

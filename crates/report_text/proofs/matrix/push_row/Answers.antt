@@ -1,3 +1,4 @@
+-- Each action beside one has its line.
 use Rattle.report_text.specs.MatrixTexts.{pair_line}
 use Rattle.report_text.proofs.MatrixLemmas.{number_written}
 use Rattle.report_text.proofs.matrix.push_row.Goals as goal

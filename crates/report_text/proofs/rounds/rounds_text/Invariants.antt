@@ -1,3 +1,4 @@
+-- The loop over the rounds that are shown.
 use Rattle.report_text.proofs.RoundLemmas.{HasWritten}
 use Rattle.report_text.proofs.rounds.rounds_text.Given as goal
 

@@ -5,6 +5,6 @@ pub returns : goal.returns
 returns c =
     verdict_read _ _ _ c.args.ticket.now c.args.end.now _ c.slot_of-slot.result c.index.result.now _
     c.self.view_is
-    c.self.invariant.sound.many c.requires c.slot_of-slot.ensures.value c.slot_of-slot.ensures.within
+    c.self.invariant.0.sound.many c.requires c.slot_of-slot.ensures.value c.slot_of-slot.ensures.within
     c.index.ensures
     c.flag-clean.ensures c.judge.ensures

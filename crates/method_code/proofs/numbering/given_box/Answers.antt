@@ -1,9 +1,0 @@
-use Rattle.std.proofs.Common.{ap, ◌∙◌}
-use Rattle.std.specs.Prelude.{unwrap_or}
-use Rattle.std.proofs.lemmas.Option.{unwrap_or-slice_get}
-use Rattle.method_code.proofs.numbering.given_box.Goals as goal
-
-pub returns : goal.returns
-returns c =
-    c.unwrap_or.ensures ∙ (ap (λ o. unwrap_or o 0) (c.copied.ensures ∙ c.get.ensures.value)
-    ∙ unwrap_or-slice_get c.args.info.now.given c.args.given 0)
