@@ -1,0 +1,14 @@
+mod lists
+mod KeyLemmas
+mod LowerLaws
+mod SafeSteps
+mod CommitPhases
+mod ClaimedEntries
+mod FramedSteps
+mod MadeEntries
+mod Overlaps
+mod InvertedEntries
+mod TightRuns
+mod KeptAttempts
+mod LawfulOrders
+mod LastStates
