@@ -9,7 +9,7 @@ use std::{env, io};
 /// The status where the system doesn't hand out the words of the command line.
 const NO_WORDS: u8 = 8;
 
-/// The words behind the program's name.
+/// The words after the program's name.
 fn words(rt: &(impl Env + AllocGlobal)) -> io::Result<Vec<String>> {
     let mut words = Vec::new(rt.alloc());
     for word in env::args(rt)?.skip(1) {

@@ -1,13 +1,13 @@
--- Where the checks of a tree refuse it, one behind the other.
+-- Where the checks of a tree refuse it, one after the other.
 use Rattle.std.proofs.Common.{◌≡◌, ℕ, [], inl, refl}
 use Rattle.std.specs.Prelude.{Err}
 use Rattle.seuss_program.specs.declared.tree.Tree.{Tree}
 use Rattle.box_types.specs.Faults.{twice, unknown, wrong_kind, wrong_type, arguments, count}
 use Rattle.call_order.specs.Calls.{partial_calls, total_calls}
-use Rattle.call_order.specs.Answers.{IsCycleAt, program_of}
+use Rattle.call_order.specs.Answers.{IsCycleAt}
 use Rattle.report_text.specs.declared.refusals.Refused.TheVariants as R
-use Rattle.seuss_run.specs.Stages.{Stage, ◌>=>◌, makes, passes}
-use Rattle.seuss_run.specs.Verdicts.{is_resolved, has_no_cycle, is_ordered}
+use Rattle.seuss_run.specs.Stages.{Stage, ◌>=>◌, passes}
+use Rattle.seuss_run.specs.Verdicts.{is_resolved, has_no_cycle, has_levels, is_ordered}
 use Rattle.seuss_run.proofs.StageLemmas.{BeginsWith, refuses, passes_on}
 
 -- the checks of a tree from one of them on
@@ -66,7 +66,7 @@ module _ (tree : Tree) (line : ℕ) where
       is_ordered tree (Err (R.Cycle line))
   cycle_refused a b box at =
       passes_on partial_calls R.PartialCall
-      (passes total_calls R.TotalCall >=> has_no_cycle >=> makes program_of)
+      (passes total_calls R.TotalCall >=> has_no_cycle >=> has_levels)
       tree (R.Cycle line) a
-      (passes_on total_calls R.TotalCall (has_no_cycle >=> makes program_of) tree (R.Cycle line) b
+      (passes_on total_calls R.TotalCall (has_no_cycle >=> has_levels) tree (R.Cycle line) b
       (inl (line, box, at, refl)))

@@ -1,5 +1,5 @@
 -- The program of accepted bytes is that of a text that passes every check.
-use Rattle.std.proofs.Common.{◌≡◌, ℕ, List, [], sym, ◌∙◌, ap, subst}
+use Rattle.std.proofs.Common.{◌≡◌, ℕ, List, [], sym, ◌∙◌, subst}
 use Rattle.std.specs.Prelude.{Ok}
 use Rattle.seuss_text.specs.Rows.{AreTokens}
 use Rattle.seuss_text.specs.Limits.{AreInLimits}
@@ -13,8 +13,9 @@ use Rattle.box_types.specs.Faults.{unknown, wrong_kind, wrong_type, arguments, c
 use Rattle.box_types.specs.Namings.{named}
 use Rattle.box_types.specs.Refusals.{IsAccepted}
 use Rattle.call_order.specs.Calls.{partial_calls, total_calls}
-use Rattle.call_order.specs.Answers.{program_of}
 use Rattle.call_order.specs.Cycles.{HasNoCycle}
+use Rattle.call_order.specs.Levels.{IsLevelled}
+use Rattle.seuss_run.specs.declared.words.Command.{Command}
 use Rattle.seuss_run.specs.declared.words.Command.TheVariants as C
 use Rattle.seuss_run.specs.Stages.{◌>=>◌}
 use Rattle.seuss_run.specs.Verdicts.{Loaded, Running, IsVerdict, is_spelled, is_resolved, is_ordered}
@@ -28,7 +29,7 @@ pub record IsChecked (p : Program) : Type 0 where
   pub partial_calls : partial_calls tree ≡ []
   pub total_calls : total_calls tree ≡ []
   pub cycles : HasNoCycle (named tree).boxes
-  pub program : p ≡ program_of tree
+  pub levels : IsLevelled (named tree) p
 
 -- a tree that passes the checks of names, kinds and types, and stays the same
 accepted_by : (tree kept : Tree) → is_resolved tree (Ok kept) → (kept ≡ tree) × IsAccepted tree
@@ -81,7 +82,7 @@ module _ (law : ReadsPrintable) where
         partial_calls = subst (λ t. partial_calls t ≡ []) resolved.0 first.1.1;
         total_calls = subst (λ t. total_calls t ≡ []) e1 second.1.1;
         cycles = subst (λ t. HasNoCycle (named t).boxes) e2 third.1.1;
-        program = third.2 ∙ ap program_of e3;
+        levels = subst (λ t. IsLevelled (named t) p) e3 third.2;
       }
 
   -- the program of bytes that are loaded
@@ -92,13 +93,20 @@ module _ (law : ReadsPrintable) where
       let same : given.0 ≡ parts.0.0 = certified.2.0.0 ∙ certified.1.0 in
       subst IsChecked (sym same) (checked_by loaded.2.0.0 parts.0.0 parts.1.0)
 
-  -- the program of accepted bytes of a run
-  pub run_checked : (rounds workers budget : ℕ) (bytes : List ℕ) (given : Loaded) →
-      IsVerdict (C.Run rounds workers budget) bytes (Ok (Running given)) → IsChecked given.0
+  -- a run is one of the loaded program
+  running_checked : (bytes : List ℕ) (given loaded : Loaded) → is_loaded bytes (Ok loaded) →
+      Running given ≡ Running loaded → IsChecked given.0
+  running_checked bytes given loaded read is =
+      let same : given ≡ loaded = cc in
+      subst (λ (g : Loaded). IsChecked g.0) (sym same) (loaded_checked bytes loaded read)
+
+  -- the program of accepted bytes that ask for a run, whatever the command
+  pub run_checked : (c : Command) (bytes : List ℕ) (given : Loaded) →
+      IsVerdict c bytes (Ok (Running given)) → IsChecked given.0
   unfolding IsVerdict
-  run_checked rounds workers budget bytes given verdict =
-      let same : given ≡ verdict.0 = loaded_same given verdict.0 verdict.2.0 in
-      subst (λ (g : Loaded). IsChecked g.0) (sym same) (loaded_checked bytes verdict.0 verdict.1)
-    where
-      loaded_same : (one other : Loaded) → Running one ≡ Running other → one ≡ other
-      loaded_same one other e = cc
+  run_checked (C.Run rounds workers budget) bytes given verdict =
+      running_checked bytes given verdict.0 verdict.1 verdict.2.0
+  run_checked (C.Sim rounds width turns budget) bytes given verdict =
+      running_checked bytes given verdict.0 verdict.1 verdict.2.0
+  run_checked (C.Tight names) bytes given verdict = absurd (cc verdict.2.1)
+  run_checked command bytes given verdict = absurd (cc verdict.2)

@@ -5,9 +5,10 @@ pub mod CertificateFaults
 pub mod CertificateLevels
 pub mod CheckLemmas
 pub mod CheckedPrograms
-pub mod CommandLemmas
 pub mod InTurn
+pub mod InputNumbers
 pub mod LoadLemmas
+pub mod NumberWords
 pub mod OneVerdict
 pub mod PerformLemmas
 pub mod ProgramNames
@@ -15,9 +16,11 @@ pub mod ReadLemmas
 pub mod SpelledNames
 pub mod SplitLemmas
 pub mod StageLemmas
+pub mod StillCommands
 pub mod Taking
 pub mod TightRuns
 pub mod ToldOrders
 pub mod TopLemmas
+pub mod TurnReports
 pub mod VerdictLemmas
-pub mod WordLemmas
+pub mod WordLists

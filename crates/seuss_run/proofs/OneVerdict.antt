@@ -7,9 +7,10 @@ use Rattle.seuss_program.specs.declared.tree.Tree.{Tree}
 use Rattle.seuss_program.specs.declared.program.Program.{Program}
 use Rattle.box_types.specs.Faults.{twice, unknown, wrong_kind, wrong_type, arguments, count}
 use Rattle.call_order.specs.Calls.{partial_calls, total_calls}
-use Rattle.call_order.specs.Answers.{IsCycleAt, line_of, program_of}
+use Rattle.call_order.specs.Answers.{IsCycleAt, line_of}
 use Rattle.box_types.specs.Namings.{named}
 use Rattle.call_order.specs.Cycles.{IsFirstCyclic}
+use Rattle.call_order.specs.Levels.{IsLevelled}
 use Rattle.seuss_program.specs.declared.program.BoxInfo.{BoxInfo}
 use Rattle.report_text.specs.declared.refusals.Refused.TheVariants as R
 use Rattle.seuss_run.specs.declared.words.Command.{Command}
@@ -17,7 +18,7 @@ use Rattle.seuss_run.specs.declared.words.Command.TheVariants as C
 use Rattle.seuss_run.specs.Commands.{action_word}
 use Rattle.seuss_run.specs.Stages.{IsOne}
 use Rattle.seuss_run.specs.Verdicts.{Printing, Checking, Comparing, Attempting, IsVerdict, is_split}
-use Rattle.seuss_run.specs.Verdicts.{is_spelled, is_resolved, has_no_cycle, is_ordered, has_input}
+use Rattle.seuss_run.specs.Verdicts.{is_spelled, is_resolved, has_no_cycle, has_levels, is_ordered, has_input}
 use Rattle.seuss_run.specs.Verdicts.{is_certified, is_loaded, is_loaded_parts, has_tree_alone, is_short}
 use Rattle.seuss_run.specs.Verdicts.{are_actions, action_number}
 use Rattle.seuss_run.proofs.StageLemmas.{one_behind, one_makes, one_passes, one_first_of, one_second_of}
@@ -52,11 +53,21 @@ one_uncyclic tree (Err why) (Ok a) (line, box, at, told) (is, none) = absurd (no
 one_uncyclic tree (Err why) (Err cause) (line, box, at, told) (line', box', at', told') =
     ap Err (told ∙ (ap R.Cycle (one_line tree line line' box box' at at') ∙ sym told'))
 
-one_ordered : IsOne is_ordered
-one_ordered =
+-- what `call_order` says of levels
+abbrev pub OneLevels : Type 0
+OneLevels = (named one other : Program) → IsLevelled named one → IsLevelled named other → one ≡ other
+
+-- a tree has one program
+one_levelled : OneLevels → IsOne has_levels
+one_levelled law tree (Ok p) (Ok q) is again = ap Ok (law (named tree) p q is again)
+one_levelled law tree (Ok p) (Err why) is refused = absurd refused
+one_levelled law tree (Err why) other refused is = absurd refused
+
+one_ordered : OneLevels → IsOne is_ordered
+one_ordered law =
     one_behind _ _ (one_passes partial_calls R.PartialCall)
     (one_behind _ _ (one_passes total_calls R.TotalCall)
-    (one_behind _ _ one_uncyclic (one_makes program_of)))
+    (one_behind _ _ one_uncyclic (one_levelled law)))
 
 -- a run is short enough or isn't
 one_short : (rounds : ℕ) → IsOne (is_short rounds)
@@ -100,11 +111,13 @@ one_named names given (Err why) (Ok a) (told, (k, x, within, at, none)) (numbers
     absurd (none_unknown given.0 names numbers are k x within at none)
 one_named names given (Err why) (Err cause) (told, some) (told', some') = ap Err (told ∙ sym told')
 
-module _ (split : IsOne is_split) (spelled : IsOne is_spelled) (numbers : IsOne has_input)
+module _ (split : IsOne is_split) (spelled : IsOne is_spelled) (levels : OneLevels)
+    (numbers : IsOne has_input)
     (certified : IsOne is_certified) where
   one_parts : IsOne is_loaded_parts
   one_parts =
-      one_behind _ _ (one_first_of _ (one_behind _ _ spelled (one_behind _ _ one_resolved one_ordered)))
+      one_behind _ _
+      (one_first_of _ (one_behind _ _ spelled (one_behind _ _ one_resolved (one_ordered levels))))
       (one_behind _ _ (one_second_of _ numbers) (one_first_of _ certified))
 
   one_loaded : IsOne is_loaded
@@ -119,6 +132,7 @@ module _ (split : IsOne is_split) (spelled : IsOne is_spelled) (numbers : IsOne 
   pub one_meaning : (c : Command) → IsOne (IsVerdict c)
   unfolding IsVerdict
   one_meaning (C.Run rounds workers budget) = one_behind _ _ one_loaded (one_short rounds)
+  one_meaning (C.Sim rounds width turns budget) = one_behind _ _ one_loaded (one_short rounds)
   one_meaning (C.Tight names) = one_behind _ _ one_loaded (one_named names)
   one_meaning C.Matrix = one_behind _ _ one_loaded (one_makes Comparing)
   one_meaning C.Check = one_behind _ _ one_loaded (one_makes Checking)

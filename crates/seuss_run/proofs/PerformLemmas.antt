@@ -1,111 +1,57 @@
 -- What a command makes of loaded bytes.
 use Rattle.std.proofs.Common.{◌≡◌, ℕ, suc, Bool, false, ◌<◌, ◌≤◌, List, [], ◌∷◌, length, ◌⊎◌, inl, inr}
-use Rattle.std.proofs.Common.{refl, sym, ap, subst, arith, map}
-use Rattle.std.specs.Prelude.{Result, Ok, Err, IsErrAnd, Some, Any, IsNone, IsTrue}
+use Rattle.std.proofs.Common.{refl, sym, ap, subst, arith}
+use Rattle.std.specs.Prelude.{Result, Ok, Err, IsErrAnd, IsTrue}
 use Rattle.std.proofs.lemmas.Bool.{cases_lt}
-use Rattle.seuss_program.specs.declared.tree.Tree.{Tree}
 use Rattle.seuss_program.specs.declared.program.Program.{Program}
 use Rattle.seuss_program.specs.declared.state.State.{State}
 use Rattle.seuss_program.specs.declared.order.LastLine.{LastLine}
 use Rattle.seuss_program.specs.declared.order.LastLine.TheVariants as L
 use Rattle.seuss_program.specs.Attempts.{tight}
-use Rattle.report_text.specs.declared.refusals.Refused.{Refused}
-use Rattle.report_text.specs.declared.refusals.Refused.TheVariants as R
 use Rattle.seuss_run.specs.declared.words.Command.{Command}
 use Rattle.seuss_run.specs.declared.words.Command.TheVariants as C
 use Rattle.seuss_run.specs.declared.halt.Halt.{Halt}
 use Rattle.seuss_run.specs.declared.halt.Halt.TheVariants as H
 use Rattle.seuss_run.specs.declared.answer.Answer.{Answer}
-use Rattle.seuss_run.specs.Commands.{action_word}
 use Rattle.seuss_run.specs.Runs.{status_of}
-use Rattle.seuss_run.specs.Stages.{Stage}
-use Rattle.seuss_run.specs.Verdicts.{Loaded, Printing, Checking, Comparing, Running, Attempting, IsVerdict}
-use Rattle.seuss_run.specs.Verdicts.{is_loaded, has_tree_alone, attempts_in, action_number}
+use Rattle.seuss_run.specs.Stages.{Stage, ◌>=>◌}
+use Rattle.seuss_run.specs.Verdicts.{Loaded, Task, are_actions}
 use Rattle.seuss_run.specs.Loadings.{Meets, Performs, NamesActions}
 
--- where the bytes aren't loaded, or memory is wanting, so it is
-pub halted : {B M : Type 0} (command : Command) (bytes : List ℕ) (stage : Stage (List ℕ) B) (view : M → B) →
-    ((why : Refused) → stage bytes (Err why) → IsVerdict command bytes (Err why)) →
-    (halt : Halt) (made : Result Answer Halt) → IsErrAnd made (λ cause. cause ≡ halt) →
-    Meets stage bytes view (Err halt) →
-    Performs command bytes made
-halted command bytes stage view refuses halt (Ok a) is met = absurd is
-halted command bytes stage view refuses (H.Refused why) (Err cause) is met =
-    subst (λ (h : Halt). Performs command bytes (Err h)) (sym is) (refuses why met)
-halted command bytes stage view refuses H.Memory (Err cause) is met =
-    subst (λ (h : Halt). Performs command bytes (Err h)) (sym is) tt
+-- what comes of an error is this error
+pub handed_on : {A : Type 0} (command : Command) (stage : Stage A Task) (given : A) (halt : Halt)
+    (made : Result Answer Halt) → IsErrAnd made (λ cause. cause ≡ halt) →
+    Performs command stage given (Err halt) → Performs command stage given made
+handed_on command stage given halt (Ok a) is refused = absurd is
+handed_on command stage given halt (Err cause) is refused =
+    subst (λ (h : Halt). Performs command stage given (Err h)) (sym is) refused
 
-module _ (rounds workers budget : ℕ) (bytes : List ℕ) where
-  pub run_halts : (why : Refused) → is_loaded bytes (Err why) →
-      IsVerdict (C.Run rounds workers budget) bytes (Err why)
-  unfolding IsVerdict
-  run_halts why refused = inl refused
+module _ {A B : Type 0} (command : Command) (first : Stage A B) (next : Stage B Task) (given : A) where
+  refused_first : {M : Type 0} (view : M → B) (halt : Halt) → Meets first given view (Err halt) →
+      Performs command (first >=> next) given (Err halt)
+  refused_first view (H.Refused why) met = inl met
+  refused_first view H.Memory met = tt
 
-  pub run_too_long : (given : Loaded) → is_loaded bytes (Ok given) → 100000 < attempts_in rounds given.0 →
-      IsVerdict (C.Run rounds workers budget) bytes (Err R.Attempts)
-  unfolding IsVerdict
-  run_too_long given loaded many = inr (given, loaded, (refl, many))
+  -- where the first check refuses, or memory is wanting, so it is
+  pub halts : {M : Type 0} (view : M → B) (halt : Halt) (made : Result Answer Halt) →
+      IsErrAnd made (λ cause. cause ≡ halt) → Meets first given view (Err halt) →
+      Performs command (first >=> next) given made
+  halts view halt made is met =
+      handed_on command (first >=> next) given halt made is (refused_first view halt met)
 
-  pub run_goes : (given : Loaded) → is_loaded bytes (Ok given) → attempts_in rounds given.0 ≤ 100000 →
-      IsVerdict (C.Run rounds workers budget) bytes (Ok (Running given))
-  unfolding IsVerdict
-  run_goes given loaded few = (given, loaded, (refl, few))
+  -- where it passes, the next one tells
+  pub goes : (between : B) (made : Result Answer Halt) → first given (Ok between) →
+      Performs command next between made → Performs command (first >=> next) given made
+  goes between (Ok a) passed (low, task, asked, did) = (low, task, (between, passed, asked), did)
+  goes between (Err (H.Refused why)) passed refused = inr (between, passed, refused)
+  goes between (Err H.Memory) passed wanting = tt
 
-module _ (names : List (List ℕ × List ℕ)) (bytes : List ℕ) where
-  pub tight_halts : (why : Refused) → is_loaded bytes (Err why) → IsVerdict (C.Tight names) bytes (Err why)
-  unfolding IsVerdict
-  tight_halts why refused = inl refused
-
-  pub tight_unknown : (given : Loaded) → is_loaded bytes (Ok given) →
-      (why : Refused) → (why ≡ R.Action) × Any (λ n. IsNone (action_number given.0 (action_word n))) names →
-      IsVerdict (C.Tight names) bytes (Err why)
-  unfolding IsVerdict
-  tight_unknown given loaded why unknown = inr (given, loaded, unknown)
-
-  pub tight_goes : (given : Loaded) (numbers : List ℕ) → is_loaded bytes (Ok given) →
-      map (λ n. action_number given.0 (action_word n)) names ≡ map Some numbers →
-      IsVerdict (C.Tight names) bytes (Ok (Attempting given numbers))
-  unfolding IsVerdict
-  tight_goes given numbers loaded named = (given, loaded, (numbers, refl, named))
-
-  -- where a name is that of no action, or memory is wanting, so it is
-  pub unnamed : (given : Loaded) → is_loaded bytes (Ok given) → (halt : Halt) (made : Result Answer Halt) →
-      IsErrAnd made (λ cause. cause ≡ halt) → NamesActions given.0 names (Err halt) →
-      Performs (C.Tight names) bytes made
-  unnamed given loaded halt (Ok a) is named = absurd is
-  unnamed given loaded (H.Refused why) (Err cause) is named =
-      subst (λ (h : Halt). Performs (C.Tight names) bytes (Err h)) (sym is)
-      (tight_unknown given loaded why named)
-  unnamed given loaded H.Memory (Err cause) is named =
-      subst (λ (h : Halt). Performs (C.Tight names) bytes (Err h)) (sym is) tt
-
-module _ (bytes : List ℕ) where
-  pub matrix_halts : (why : Refused) → is_loaded bytes (Err why) → IsVerdict C.Matrix bytes (Err why)
-  unfolding IsVerdict
-  matrix_halts why refused = inl refused
-
-  pub matrix_goes : (given : Loaded) → is_loaded bytes (Ok given) →
-      IsVerdict C.Matrix bytes (Ok (Comparing given))
-  unfolding IsVerdict
-  matrix_goes given loaded = (given, loaded, refl)
-
-  pub check_halts : (why : Refused) → is_loaded bytes (Err why) → IsVerdict C.Check bytes (Err why)
-  unfolding IsVerdict
-  check_halts why refused = inl refused
-
-  pub check_goes : (given : Loaded) → is_loaded bytes (Ok given) →
-      IsVerdict C.Check bytes (Ok (Checking given))
-  unfolding IsVerdict
-  check_goes given loaded = (given, loaded, refl)
-
-  pub print_halts : (why : Refused) → has_tree_alone bytes (Err why) → IsVerdict C.Print bytes (Err why)
-  unfolding IsVerdict
-  print_halts why refused = inl refused
-
-  pub print_goes : (tree : Tree) → has_tree_alone bytes (Ok tree) →
-      IsVerdict C.Print bytes (Ok (Printing tree))
-  unfolding IsVerdict
-  print_goes tree read = (tree, read, refl)
+-- where a name is that of no action, or memory is wanting, so it is
+pub unnamed : (names : List (List ℕ × List ℕ)) (given : Loaded) (halt : Halt) →
+    NamesActions given.0 names (Err halt) →
+    Performs (C.Tight names) (are_actions names) given (Err halt)
+unnamed names given (H.Refused why) named = named
+unnamed names given H.Memory named = tt
 
 -- the statuses of what was done
 pub low_status : (last : LastLine) → status_of last ≤ 2

@@ -20,7 +20,7 @@ use Rattle.box_types.specs.OwnNames.{ProcsDiffer, HasOwnNames}
 use Rattle.call_order.specs.Levels.{without_level}
 use Rattle.call_order.specs.Answers.{IsOrdered}
 use Rattle.report_text.specs.Names.{IsName, DiffersFrom, HasNamesInside, HasNames}
-use Rattle.seuss_run.proofs.SpelledNames.{HasSpelledCat, HasSpelledNames}
+use Rattle.seuss_run.proofs.SpelledNames.{HasSpelledCat, HasSpelledNames, SpelledAreNames}
 
 module _ {X Y : Type 0} (f : X → Y) where
   -- what holds of all that is made of a list's items holds of it for each item
@@ -29,6 +29,7 @@ module _ {X Y : Type 0} (f : X → Y) where
       let long : length (map f xs) ≡ length xs = length-map xs f in
       subst P (get_or-map f xs k d (f d) within) (all k (f d) (omega arith))
 
+  -- what holds of all pairs that are made of a list's items holds of it for each pair of items
   pairs_back : (R : Y → Y → Type 0) (xs : List X) → AllPairs R (map f xs) →
       AllPairs (λ x y. R (f x) (f y)) xs
   pairs_back R xs all = λ i j d before within.
@@ -65,10 +66,11 @@ numbered_names cats own spelled differ = record {
   procs_differ = pairs_map (N.procedure cats own) (Apart Ref) own.procs differ;
 }
 
--- a list of one item
+-- what holds of an item holds of all of a list of one
 all_one : {X : Type 0} (P : X → Type 0) (x : X) → P x → All P (x ∷ [])
 all_one P x is = All-cons P x [] is (All-nil P)
 
+-- no two items stand in a list of one
 pairs_one : {X : Type 0} (R : X → X → Type 0) (x : X) → AllPairs R (x ∷ [])
 pairs_one R x = λ i j d before within. absurd (omega arith)
 
@@ -76,43 +78,44 @@ pairs_one R x = λ i j d before within. absurd (omega arith)
 abbrev the_queue : Var
 the_queue = record { name = word (codes "q"); kind = K.Seq; start = V.Seq [] }
 
-input_spelled : HasSpelledCat input
-input_spelled = record {
-  vars = all_one (λ (v : Var). IsName v.name) the_queue refl;
-  procs = all_one (λ (q : Proc Name). IsName q.name) read refl;
-}
-
-output_spelled : HasSpelledCat output
-output_spelled = record {
-  vars = all_one (λ (v : Var). IsName v.name) the_queue refl;
-  procs = all_one (λ (q : Proc Name). IsName q.name) write refl;
-}
-
-module _ (tree : Tree) (spelled : HasSpelledNames tree) (own : HasOwnNames tree) where
-  abbrev whole : List (Cat Name)
-  whole = (with_built_ins tree).cats
-
-  -- each cat with the built-in ones in front
-  each_cat : All (λ c. HasNamesInside (N.cat whole c)) whole
-  each_cat = All-cons (λ c. HasNamesInside (N.cat whole c)) input (output ∷ tree.cats)
-      (numbered_names whole input input_spelled (pairs_one (Apart Name) read))
-      (All-cons (λ c. HasNamesInside (N.cat whole c)) output tree.cats
-      (numbered_names whole output output_spelled (pairs_one (Apart Name) write))
-      (λ k d within. numbered_names whole (get_or tree.cats k d) (spelled.cats k d within)
-      (own.procs k d within)))
-
-  -- the program of the text
-  pub program_names : (p : Program) → IsOrdered p tree → HasNames p
-  program_names p ordered = record {
-    cats = subst (λ (cs : List (Cat Ref)). All HasNamesInside cs) (sym ordered.levels.cats)
-        (All-map HasNamesInside (N.cat whole) whole each_cat);
-    boxes = all_back without_level (λ (b : BoxInfo). IsName b.name) p.boxes
-        (subst (λ (bs : List BoxInfo). All (λ (b : BoxInfo). IsName b.name) bs) (sym ordered.levels.boxes)
-        (All-map (λ (b : BoxInfo). IsName b.name) without_level (named tree).boxes
-        (All-map (λ (b : BoxInfo). IsName b.name) (N.box_info whole tree.boxes) tree.boxes spelled.boxes)));
-    boxes_differ = pairs_back without_level BoxesApart p.boxes
-        (subst (AllPairs BoxesApart)
-        (sym ordered.levels.boxes)
-        (pairs_map without_level BoxesApart (named tree).boxes
-        (pairs_map (N.box_info whole tree.boxes) BoxesApart tree.boxes own.boxes)));
+module _ (law : SpelledAreNames) where
+  input_spelled : HasSpelledCat input
+  input_spelled = record {
+    vars = all_one (λ (v : Var). IsName v.name) the_queue (law the_queue.name (λ e. cc e) refl);
+    procs = all_one (λ (q : Proc Name). IsName q.name) read (law read.name (λ e. cc e) refl);
   }
+
+  output_spelled : HasSpelledCat output
+  output_spelled = record {
+    vars = all_one (λ (v : Var). IsName v.name) the_queue (law the_queue.name (λ e. cc e) refl);
+    procs = all_one (λ (q : Proc Name). IsName q.name) write (law write.name (λ e. cc e) refl);
+  }
+
+  module _ (tree : Tree) (spelled : HasSpelledNames tree) (own : HasOwnNames tree) where
+    abbrev whole : List (Cat Name)
+    whole = (with_built_ins tree).cats
+
+    -- each cat with the built-in ones in front
+    each_cat : All (λ c. HasNamesInside (N.cat whole c)) whole
+    each_cat = All-cons (λ c. HasNamesInside (N.cat whole c)) input (output ∷ tree.cats)
+        (numbered_names whole input input_spelled (pairs_one (Apart Name) read))
+        (All-cons (λ c. HasNamesInside (N.cat whole c)) output tree.cats
+        (numbered_names whole output output_spelled (pairs_one (Apart Name) write))
+        (λ k d within. numbered_names whole (get_or tree.cats k d) (spelled.cats k d within)
+        (own.procs k d within)))
+
+    -- the program of the text
+    pub program_names : (p : Program) → IsOrdered p tree → HasNames p
+    program_names p ordered = record {
+      cats = subst (λ (cs : List (Cat Ref)). All HasNamesInside cs) (sym ordered.levels.cats)
+          (All-map HasNamesInside (N.cat whole) whole each_cat);
+      boxes = all_back without_level (λ (b : BoxInfo). IsName b.name) p.boxes
+          (subst (λ (bs : List BoxInfo). All (λ (b : BoxInfo). IsName b.name) bs) (sym ordered.levels.boxes)
+          (All-map (λ (b : BoxInfo). IsName b.name) without_level (named tree).boxes
+          (All-map (λ (b : BoxInfo). IsName b.name) (N.box_info whole tree.boxes) tree.boxes spelled.boxes)));
+      boxes_differ = pairs_back without_level BoxesApart p.boxes
+          (subst (AllPairs BoxesApart)
+          (sym ordered.levels.boxes)
+          (pairs_map without_level BoxesApart (named tree).boxes
+          (pairs_map (N.box_info whole tree.boxes) BoxesApart tree.boxes own.boxes)));
+    }

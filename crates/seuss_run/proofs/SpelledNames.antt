@@ -1,9 +1,13 @@
 -- The names of a tree that is printable are names.
-use Rattle.std.proofs.Common.{◌≡◌, ℕ, zero, suc, pos, ◌<◌, Bool, true, false, if◌then◌else◌, List, [], ◌∷◌}
-use Rattle.std.proofs.Common.{◌++◌, All, get_or, length, Some, None, refl, arith}
-use Rattle.std.specs.List.{flat_map}
+use Rattle.std.proofs.Common.{◌≡◌, ◌≢◌, ℕ, zero, suc, pos, ◌<◌, Bool, true, false, List, [], refl}
+use Rattle.std.proofs.Common.{◌∷◌, ◌++◌, All, get_or, length, Some, arith}
+use Rattle.std.specs.List.{flat_map, list_all}
+use Rattle.std.specs.Char.{is_ascii_alphanumeric}
+use Rattle.std.specs.Prelude.{IsTrue, ◌==◌, ◌||◌, None, if◌then◌else◌}
 use Rattle.std.proofs.lemmas.List.Elements.{All-head, All-tail}
-use Rattle.seuss_text.specs.Words.{kind_of, is_letters, is_digits, is_among, signs, keywords}
+use Rattle.seuss_text.specs.Bytes.{is_name_byte}
+use Rattle.seuss_text.specs.Words.{kind_of, is_letters}
+use Rattle.seuss_text.specs.declared.token.TokenKind.TheVariants.{Name as NameKind, Number, Sign, Keyword}
 use Rattle.seuss_text.specs.declared.token.TokenKind.TheVariants as K
 use Rattle.seuss_program.specs.declared.tree.Name.{Name}
 use Rattle.seuss_program.specs.declared.tree.Var.{Var}
@@ -18,7 +22,24 @@ use Rattle.seuss_print.specs.Items.{Item, Token, Space, LineFeed, tokens_in, lin
 use Rattle.seuss_print.specs.Items.{perhaps_bracketed}
 use Rattle.seuss_print.specs.Canonical.{variable, form_items, procedure, semi, given, cat, box, program}
 use Rattle.seuss_print.specs.Printable.{IsWithinLimit, IsPrintable}
-use Rattle.report_text.specs.Names.{IsName, is_name_text}
+use Rattle.report_text.specs.Names.{IsName}
+
+-- a name is a letter and bytes of names
+name_letters : (word : List ℕ) → kind_of word ≡ Some NameKind → is_letters word ≡ true
+name_letters word h = by_test _ _ _ _ h
+  where
+    by_test : (letters key digits sign : Bool) →
+        (if letters then Some (if key then Keyword else NameKind)
+        else (if digits then Some Number else (if sign then Some Sign else None))) ≡ Some NameKind →
+        letters ≡ true
+    by_test true key digits sign h = refl
+    by_test false key true sign h = absurd (cc h)
+    by_test false key false true h = absurd (cc h)
+    by_test false key false false h = absurd (cc h)
+
+name_bytes : (word : List ℕ) → is_letters word ≡ true → list_all is_name_byte word ≡ true
+name_bytes [] h = refl
+name_bytes (b ∷ bs) h = grind arith
 
 -- the variables and the procedures of a cat have names
 pub record HasSpelledCat (c : Cat Name) : Type 0 where
@@ -37,6 +58,7 @@ AreWithin (Token sort ∷ items) = IsWithinLimit sort × AreWithin items
 AreWithin (Space ∷ items) = AreWithin items
 AreWithin (LineFeed ∷ items) = AreWithin items
 
+-- where all tokens are within their limits, those among the items are
 within_by : (items : List Item) → All IsWithinLimit (tokens_in items) → AreWithin items
 within_by [] all = tt
 within_by (Token sort ∷ items) all = (
@@ -46,13 +68,14 @@ within_by (Token sort ∷ items) all = (
 within_by (Space ∷ items) all = within_by items all
 within_by (LineFeed ∷ items) all = within_by items all
 
--- of items put together, the first and the second part
+-- of items put together, the first part is within the limits
 within_first : (xs ys : List Item) → AreWithin (xs ++ ys) → AreWithin xs
 within_first [] ys are = tt
 within_first (Token sort ∷ xs) ys are = (are.0, within_first xs ys are.1)
 within_first (Space ∷ xs) ys are = within_first xs ys are
 within_first (LineFeed ∷ xs) ys are = within_first xs ys are
 
+-- and the second part
 within_second : (xs ys : List Item) → AreWithin (xs ++ ys) → AreWithin ys
 within_second [] ys are = are
 within_second (Token sort ∷ xs) ys are = within_second xs ys are.1
@@ -68,70 +91,78 @@ within_each print (x ∷ xs) zero d are within = within_first (print x) (flat_ma
 within_each print (x ∷ xs) (suc k) d are within =
     within_each print xs k d (within_second (print x) (flat_map print xs) are) (omega arith)
 
--- a token that is a name has the text of one
-name_text : (text : List ℕ) → kind_of text ≡ Some K.Name → is_name_text text ≡ true
-name_text text is = same text (letters (is_letters text) (is_digits text) (is_among signs text) is)
-  where
-    letters : (a b c : Bool) →
-        (if a then Some (if is_among keywords text then K.Keyword else K.Name) else (if b then Some K.Number
-        else (if c then Some K.Sign else None))) ≡ Some K.Name → a ≡ true
-    letters true b c h = refl
-    letters false true c h = cc
-    letters false false true h = cc
-    letters false false false h = cc
+-- what is spelled as a name has a byte
+name_some : (word : List ℕ) → is_letters word ≡ true → word ≢ []
+name_some [] h = absurd (cc h)
+name_some (b ∷ bs) h = λ e. cc e
 
-    same : (word : List ℕ) → is_letters word ≡ true → is_name_text word ≡ true
-    same [] h = h
-    same (b ∷ bs) h = h
+-- what `report_text` says of names that are spelled so
+abbrev pub SpelledAreNames : Type 0
+SpelledAreNames = (name : Name) → name.text ≢ [] →
+    IsTrue (list_all (λ (b : ℕ). is_ascii_alphanumeric b || b == 95) name.text) → IsName name
 
-box_spelled : (b : BoxDecl) → AreWithin (box b) → IsName b.name
-box_spelled b are = name_text b.name.text are.1.0.0
-
-var_spelled : (v : Var) → AreWithin (variable v) → IsName v.name
-var_spelled v are = name_text v.name.text are.1.0.0
-
-form_spelled : (q : Proc Name) (form : Form Name) → AreWithin (form_items q form) → IsName q.name
-form_spelled q (F.Total statements) are = name_text q.name.text are.1.0.0
-form_spelled q (F.Partial alternatives) are = name_text q.name.text are.1.0.0
-form_spelled q (F.Action alternatives) are = name_text q.name.text are.1.0.0
-
-proc_spelled : (q : Proc Name) → AreWithin (procedure q) → IsName q.name
-proc_spelled q are =
-    form_spelled q q.form (within_first (form_items q q.form) (line 1 (symbol S.End ∷ [])) are)
-
--- the first and the last line of a cat
+-- the first line of a cat
 abbrev head_of : Cat Name → List Item
 head_of c = line 0 (symbol S.Cat ∷ Space ∷ named c.name ∷ perhaps_bracketed given c.given)
 
+-- the last line of a cat
 abbrev end : List Item
 end = line 0 (symbol S.End ∷ [])
 
-cat_spelled : (c : Cat Name) → AreWithin (cat c) → HasSpelledCat c
-cat_spelled c are =
-    let vars = flat_map variable c.vars in
-    let procs = flat_map procedure c.procs in
-    let semis = flat_map semi c.semis in
-    let before = within_first (head_of c ++ vars ++ procs) semis
-    (within_first (head_of c ++ vars ++ procs ++ semis) end are) in
-    let on_procs = within_second (head_of c ++ vars) procs before in
-    let on_vars = within_second (head_of c) vars (within_first (head_of c ++ vars) procs before) in
-    record {
-      vars = λ k d within. var_spelled (get_or c.vars k d) (within_each variable c.vars k d on_vars within);
-      procs = λ k d within. proc_spelled (get_or c.procs k d)
-          (within_each procedure c.procs k d on_procs within);
-    }
+module _ (law : SpelledAreNames) where
+  -- a token that is a name is one that a report tells
+  is_name : (name : Name) → kind_of name.text ≡ Some K.Name → IsName name
+  is_name name is =
+      let letters = name_letters name.text is in
+      law name (name_some name.text letters) (name_bytes name.text letters)
 
--- the names of a whole tree
-pub names_spelled : (tree : Tree) → IsPrintable tree → HasSpelledNames tree
-names_spelled tree printable =
-    let start = line 0 (symbol S.Seuss ∷ Space ∷ number (pos 1) ∷ []) in
-    let cats = flat_map cat tree.cats in
-    let boxes = flat_map box tree.boxes in
-    let whole = within_by (program tree) printable.tokens in
-    let on_cats = within_second start cats (within_first (start ++ cats) boxes whole) in
-    let on_boxes = within_second (start ++ cats) boxes whole in
-    record {
-      cats = λ k d within. cat_spelled (get_or tree.cats k d) (within_each cat tree.cats k d on_cats within);
-      boxes = λ k d within. box_spelled (get_or tree.boxes k d)
-          (within_each box tree.boxes k d on_boxes within);
-    }
+  -- the name of a box is a name
+  box_spelled : (b : BoxDecl) → AreWithin (box b) → IsName b.name
+  box_spelled b are = is_name b.name are.1.0.0
+
+  -- the name of a variable is a name
+  var_spelled : (v : Var) → AreWithin (variable v) → IsName v.name
+  var_spelled v are = is_name v.name are.1.0.0
+
+  -- the name of a procedure is a name, by its form
+  form_spelled : (q : Proc Name) (form : Form Name) → AreWithin (form_items q form) → IsName q.name
+  form_spelled q (F.Total statements) are = is_name q.name are.1.0.0
+  form_spelled q (F.Partial alternatives) are = is_name q.name are.1.0.0
+  form_spelled q (F.Action alternatives) are = is_name q.name are.1.0.0
+
+  -- the name of a procedure is a name
+  proc_spelled : (q : Proc Name) → AreWithin (procedure q) → IsName q.name
+  proc_spelled q are =
+      form_spelled q q.form (within_first (form_items q q.form) (line 1 (symbol S.End ∷ [])) are)
+
+  -- the names in a cat are names
+  cat_spelled : (c : Cat Name) → AreWithin (cat c) → HasSpelledCat c
+  cat_spelled c are =
+      let vars = flat_map variable c.vars in
+      let procs = flat_map procedure c.procs in
+      let semis = flat_map semi c.semis in
+      let before = within_first (head_of c ++ vars ++ procs) semis
+      (within_first (head_of c ++ vars ++ procs ++ semis) end are) in
+      let on_procs = within_second (head_of c ++ vars) procs before in
+      let on_vars = within_second (head_of c) vars (within_first (head_of c ++ vars) procs before) in
+      record {
+        vars = λ k d within. var_spelled (get_or c.vars k d) (within_each variable c.vars k d on_vars within);
+        procs = λ k d within. proc_spelled (get_or c.procs k d)
+            (within_each procedure c.procs k d on_procs within);
+      }
+
+  -- the names of a whole tree
+  pub names_spelled : (tree : Tree) → IsPrintable tree → HasSpelledNames tree
+  names_spelled tree printable =
+      let start = line 0 (symbol S.Seuss ∷ Space ∷ number (pos 1) ∷ []) in
+      let cats = flat_map cat tree.cats in
+      let boxes = flat_map box tree.boxes in
+      let whole = within_by (program tree) printable.tokens in
+      let on_cats = within_second start cats (within_first (start ++ cats) boxes whole) in
+      let on_boxes = within_second (start ++ cats) boxes whole in
+      record {
+        cats = λ k d within. cat_spelled (get_or tree.cats k d)
+            (within_each cat tree.cats k d on_cats within);
+        boxes = λ k d within. box_spelled (get_or tree.boxes k d)
+            (within_each box tree.boxes k d on_boxes within);
+      }

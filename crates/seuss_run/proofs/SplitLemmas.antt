@@ -17,7 +17,7 @@ pub record IsLine (bytes : List ℕ) (len : ℕ) : Type 0 where
   pub inside : (k : ℕ) → k + 1 < len → get_or bytes k 0 ≢ 10
   pub ended : (get_or bytes (len - 1) 0 ≡ 10) ⊎ (len ≡ length bytes)
 
--- whole lines stand before this place, and the first line `%%` begins there or behind it
+-- whole lines stand before this place, and the first line `%%` begins there or after it
 pub record IsPast (bytes : List ℕ) (start : ℕ) : Type 0 where
   pub within : start ≤ length bytes
   pub lines : start < length bytes → EndsLine (take start bytes)
@@ -99,7 +99,7 @@ marker_line marker behind bytes len e m line =
     (marker_len marker behind m) in
     rw (n, e) (take-append_seam marker behind)
 
--- behind a line that isn't the last the next one begins
+-- after a line that isn't the last the next one begins
 past_lines : (bytes : List ℕ) (start len : ℕ) → IsLine (drop start bytes) len → start + len < length bytes →
     EndsLine (take (start + len) bytes)
 past_lines bytes start len line left =
@@ -132,7 +132,7 @@ is_marker_there : (bytes other rest : List ℕ) (start : ℕ) (s : SplitsAt byte
 is_marker_there bytes other rest start s e =
     rw (e, s.spelled) (drop-append_seam other (s.marker ++ rest))
 
--- where the line is no marker, the first one begins behind it
+-- where the line is no marker, the first one begins after it
 none_before : (bytes other rest : List ℕ) (start len : ℕ) → IsLine (drop start bytes) len →
     ((marker behind : List ℕ) → IsMarker marker behind → take len (drop start bytes) ≡ marker → ⊥) →
     SplitsAt bytes other rest → start ≤ length other → start + len ≤ length other
@@ -147,7 +147,7 @@ none_before bytes other rest start len line other_line s from =
       ]
     ]
 
--- behind a line that is no marker the next one begins
+-- after a line that is no marker the next one begins
 past_line : (bytes : List ℕ) (start len : ℕ) → IsPast bytes start → IsLine (drop start bytes) len →
     start < length bytes →
     ((marker behind : List ℕ) → IsMarker marker behind → take len (drop start bytes) ≡ marker → ⊥) →
@@ -218,7 +218,7 @@ last_marker bytes line behind len l front back e =
       | inr all ↦ back ∙ drop_all len bytes (omega arith)
     ]
 
--- a line that is a marker is one before what stands behind it
+-- a line that is a marker is one before what stands after it
 marker_here : (bytes line behind : List ℕ) (len : ℕ) → IsLine bytes len → line ≡ take len bytes →
     behind ≡ drop len bytes → IsMarkerLine line → IsMarker line behind
 marker_here bytes line behind len l front back (inl e) = inl e
@@ -242,7 +242,7 @@ split_here bytes program rest line input start len past left front back l line_i
       omega (arith, past.none other behind s, ap length front, length-take-le start bytes past.within);
 }
 
--- what stands behind a program
+-- what stands after a program
 behind_same : (bytes program other input : List ℕ) (s : SplitsAt bytes program input) →
     length other ≡ length program → drop (length other) bytes ≡ s.marker ++ input
 behind_same bytes program other input s e = rw (e, s.spelled) (drop-append_seam program (s.marker ++ input))

@@ -1,4 +1,4 @@
--- What checks one behind the other give, by what each of them gives.
+-- What checks one after the other give, by what each of them gives.
 use Rattle.std.proofs.Common.{◌≡◌, ℕ, List, [], ◌∷◌, inl, inr, refl, sym, ap, ◌∙◌, subst}
 use Rattle.std.specs.Prelude.{Result, Ok, Err, IsErrAnd}
 use Rattle.report_text.specs.declared.refusals.Refused.{Refused}
@@ -81,12 +81,12 @@ module _ {A B C : Type 0} (first : Stage A B) (next : Stage B C) (one_first : Is
       one_next given between passed (Ok made) (Ok again) (subst (λ x. next x (Ok made)) same done) made_so
   one_made given made (Err why) done refused = sym (one_refusal given why (Ok made) refused done)
 
-  -- two checks one behind the other give one answer, where the first does, and the second behind it
+  -- two checks one after the other give one answer, where the first does, and the second after it
   pub one_behind_met : IsOne (first >=> next)
   one_behind_met given (Ok made) other is other_is = one_made given made other is other_is
   one_behind_met given (Err why) other is other_is = one_refusal given why other is other_is
 
--- two checks one behind the other give one answer, where each of them does
+-- two checks one after the other give one answer, where each of them does
 pub one_behind : {A B C : Type 0} (first : Stage A B) (next : Stage B C) → IsOne first → IsOne next →
     IsOne (first >=> next)
 one_behind first next one_first one_next =

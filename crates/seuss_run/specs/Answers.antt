@@ -1,37 +1,37 @@
 -- What a call ends with, by its words and the bytes that were read.
-use Rattle.std.specs.Prelude.{◌≡◌, ℕ, Bool, true, false, ◌<◌, ◌≤◌, ◌⊎◌, List, length, codes, Option, Ok, Err}
+use Rattle.std.specs.Prelude.{◌≡◌, ℕ, ◌≤◌, ◌⊎◌, List, length, codes, Option, Ok, Err}
 use Rattle.seuss_program.specs.Attempts.{tight}
 use Rattle.seuss_program.specs.Initials.{initial}
-use Rattle.seuss_program.specs.Reports.{line, last_line}
+use Rattle.seuss_program.specs.Reports.{line}
 use Rattle.seuss_print.specs.Canonical.{canonical_text}
 use Rattle.report_text.specs.declared.refusals.Refused.{Refused}
 use Rattle.report_text.specs.Refusals.{refusal}
-use Rattle.report_text.specs.TightReports.{tight_report, attempts_of}
+use Rattle.report_text.specs.TightReports.{tight_report, tight_end}
 use Rattle.report_text.specs.CheckTexts.{check_text}
 use Rattle.seuss_run.specs.declared.words.Command.{Command}
 use Rattle.seuss_run.specs.declared.words.Command.TheVariants as C
-use Rattle.seuss_run.specs.Commands.{IsCommand}
 use Rattle.seuss_run.specs.Matrices.{IsMatrix}
-use Rattle.seuss_run.specs.Readings.{Takes, TakesAll}
+use Rattle.seuss_run.specs.Readings.{Takes, TakesAll, AreTooMany}
 use Rattle.seuss_run.specs.Runs.{IsReport, status_of}
+use Rattle.seuss_run.specs.Simulations.{IsSimulated}
 use Rattle.seuss_run.specs.Verdicts.{Task, Printing, Checking, Comparing, Running, Attempting, Loaded}
 use Rattle.seuss_run.specs.Verdicts.{IsVerdict}
+use Rattle.seuss_run.specs.declared.reading.TheConstants.{MOST_BYTES}
+use Rattle.seuss_run.specs.declared.words.TheConstants.{DEFAULT_BUDGET}
 
--- the budget of an attempt where the words name none
-abbrev pub default_budget : ℕ
-default_budget = 10000
-
--- the named actions were attempted one after the other, each with the whole budget, and this is their report
+-- the named actions were attempted one after the other, each with the default budget: this is their report
 abbrev pub IsTightReport : Loaded → List ℕ → ℕ → List ℕ → Type 0
 IsTightReport given actions status text =
-    let run = tight given.0 actions (initial given.0 given.1) default_budget in
+    let run = tight given.0 actions (initial given.0 given.1) DEFAULT_BUDGET in
     (text ≡ tight_report given.0 actions run.outcomes run.state) ×
-    (status ≡ status_of (last_line (attempts_of actions run.outcomes)))
+    (status ≡ status_of (tight_end actions run.outcomes))
 
 -- what a task writes, and the status that it ends with, for the words of the command
 abbrev pub Does : Command → Task → ℕ → List ℕ → Type 0
 Does (C.Run rounds workers budget) (Running given) status text =
     IsReport given.0 given.1 rounds budget status text
+Does (C.Sim rounds width turns budget) (Running given) status text =
+    IsSimulated given rounds width turns budget status text
 Does (C.Tight names) (Attempting given actions) status text = IsTightReport given actions status text
 Does C.Matrix (Comparing given) status text = (status ≡ 0) × IsMatrix given.0 text
 Does C.Check (Checking given) status text = (status ≡ 0) × (text ≡ check_text given.0)
@@ -44,64 +44,43 @@ Answers command bytes status text =
     ((status ≡ 3) × (reason : Refused) × IsVerdict command bytes (Err reason) × (text ≡ refusal reason))
     ⊎ ((status ≤ 2) × (task : Task) × IsVerdict command bytes (Ok task) × Does command task status text)
 
--- a command that waits for no other thread
-abbrev pub IsStill : Command → Type 0
-IsStill (C.Run rounds workers budget) = ⊥
-IsStill (C.Tight actions) = Unit {0}
-IsStill C.Matrix = Unit {0}
-IsStill C.Check = Unit {0}
-IsStill C.Print = Unit {0}
+-- a command has read these bytes by the time that it is done: each of these reads all of them
+abbrev pub WasRead : Command → Option (List ℕ) → Option (List ℕ) → List ℕ → Type 0
+WasRead (C.Run rounds workers budget) left rest bytes = TakesAll left rest bytes
+WasRead (C.Sim rounds width turns budget) left rest bytes = TakesAll left rest bytes
+WasRead (C.Tight actions) left rest bytes = TakesAll left rest bytes
+WasRead C.Matrix left rest bytes = TakesAll left rest bytes
+WasRead C.Check left rest bytes = TakesAll left rest bytes
+WasRead C.Print left rest bytes = TakesAll left rest bytes
 
--- any command
-abbrev pub IsAny : Command → Type 0
-IsAny command = Unit {0}
-
--- all commands are known, or those alone that wait for no other thread
-abbrev pub Knows : Bool → Command → Type 0
-Knows true command = IsAny command
-Knows false command = IsStill command
-
--- the words are none of these commands
-abbrev pub HasNoCommand : (Command → Type 0) → List (List ℕ) → Type 0
-HasNoCommand Known words = (c : Command) → Known c → IsCommand words c → ⊥
-
--- the line that is written where the words are no command
-abbrev pub usage : List ℕ
-usage = line (codes "usage")
-
--- the bytes were read to their end, or more than 2,097,156 of them were taken
+-- the bytes were read to their end, or more of them were taken than are read
 abbrev pub WereRead : Option (List ℕ) → Option (List ℕ) → List ℕ → Type 0
-WereRead before now bytes = TakesAll before now bytes ⊎ ((2097156 < length bytes) × Takes before now bytes)
+WereRead left rest bytes =
+    ((length bytes ≤ MOST_BYTES) × TakesAll left rest bytes) ⊎ (AreTooMany bytes × Takes left rest bytes)
 
--- Status 3: the words are a command, and the bytes that were read are refused for a reason, whose line
--- is the text.
-pub record EndsRefused (Known : Command → Type 0) (words : List (List ℕ)) (before now : Option (List ℕ))
-    (text : List ℕ) : Type 0 where
-  pub command : Command
-  pub known : Known command
-  pub spelled : IsCommand words command
+-- Status 3: the bytes that were read are refused for a reason, whose line is the text.
+pub record EndsRefused (command : Command) (left rest : Option (List ℕ)) (text : List ℕ) : Type 0 where
   pub bytes : List ℕ
-  pub read : WereRead before now bytes
+  pub read : WereRead left rest bytes
   pub reason : Refused
   pub refused : IsVerdict command bytes (Err reason)
   pub told : text ≡ refusal reason
 
--- Status 0, 1 or 2: the words are a command, which was done with all the bytes.
-pub record EndsDone (Known : Command → Type 0) (words : List (List ℕ)) (before now : Option (List ℕ))
-    (status : ℕ) (text : List ℕ) : Type 0 where
-  pub command : Command
-  pub known : Known command
-  pub spelled : IsCommand words command
-  pub bytes : List ℕ
-  pub read : TakesAll before now bytes
-  pub task : Task
-  pub accepted : IsVerdict command bytes (Ok task)
-  pub done : Does command task status text
+-- Status 0, 1 or 2: the bytes ask for a task, and the text is what the command does with it.
+pub record EndsDone (command : Command) (left rest : Option (List ℕ)) (status : ℕ) (text : List ℕ) : Type 0
+  where
+    pub bytes : List ℕ
+    pub read : WasRead command left rest bytes
+    pub task : Task
+    pub accepted : IsVerdict command bytes (Ok task)
+    pub done : Does command task status text
 
--- A status below 5 and the whole text that is written with it.
-abbrev pub Ends : (Command → Type 0) → List (List ℕ) → Option (List ℕ) → Option (List ℕ) → ℕ → List ℕ →
-    Type 0
-Ends Known words before now status text =
-    ((status ≡ 4) × HasNoCommand Known words × (text ≡ usage))
-    ⊎ (((status ≡ 3) × EndsRefused Known words before now text)
-    ⊎ ((status ≤ 2) × EndsDone Known words before now status text))
+-- a status below 4, and the whole text that a command writes with it
+abbrev pub Ends : Command → Option (List ℕ) → Option (List ℕ) → ℕ → List ℕ → Type 0
+Ends command left rest status text =
+    ((status ≡ 3) × EndsRefused command left rest text)
+    ⊎ ((status ≤ 2) × EndsDone command left rest status text)
+
+-- the line that is written where the words are no command
+abbrev pub usage : List ℕ
+usage = line (codes "usage")

@@ -2,8 +2,12 @@ pub mod Answers
 pub mod Commands
 pub mod Loadings
 pub mod Matrices
+pub mod Preparations
+pub mod Promises
 pub mod Readings
 pub mod Runs
+pub mod Served
+pub mod Simulations
 pub mod Splits
 pub mod Stages
 pub mod Verdicts

@@ -8,7 +8,7 @@ use Rattle.seuss_run.specs.declared.words.Command.{Command}
 use Rattle.seuss_run.specs.declared.answer.Answer.{Answer}
 use Rattle.seuss_run.specs.Commands.{action_word}
 use Rattle.seuss_run.specs.Stages.{Stage}
-use Rattle.seuss_run.specs.Verdicts.{Task, IsVerdict, action_number}
+use Rattle.seuss_run.specs.Verdicts.{Task, action_number}
 use Rattle.seuss_run.specs.Answers.{Does}
 
 -- what was made, seen in this way, meets a check; or the check refuses for this reason
@@ -17,12 +17,13 @@ Meets stage given view (Ok made) = stage given (Ok (view made))
 Meets stage given view (Err (H.Refused why)) = stage given (Err why)
 Meets stage given view (Err H.Memory) = Unit {0}
 
--- the task that the bytes ask for was done, and this is its status and text; or they are refused
-abbrev pub Performs : Command → List ℕ → Result Answer Halt → Type 0
-Performs command bytes (Ok a) =
-    (a.status ≤ 2) × (task : Task) × IsVerdict command bytes (Ok task) × Does command task a.status a.text
-Performs command bytes (Err (H.Refused why)) = IsVerdict command bytes (Err why)
-Performs command bytes (Err H.Memory) = Unit {0}
+-- a check of what is given asks for a task, which was done for the command with this status and text; or it
+-- refuses what is given for this reason
+abbrev pub Performs : {A : Type 0} → Command → Stage A Task → A → Result Answer Halt → Type 0
+Performs command stage given (Ok a) =
+    (a.status ≤ 2) × (task : Task) × stage given (Ok task) × Does command task a.status a.text
+Performs command stage given (Err (H.Refused why)) = stage given (Err why)
+Performs command stage given (Err H.Memory) = Unit {0}
 
 -- these are the numbers of the named actions, or one of the names is that of no action
 abbrev pub NamesActions : Program → List (List ℕ × List ℕ) → Result (List ℕ) Halt → Type 0

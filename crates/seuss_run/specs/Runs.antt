@@ -9,13 +9,14 @@ use Rattle.seuss_program.specs.declared.order.LastLine.{LastLine}
 use Rattle.seuss_program.specs.declared.order.LastLine.TheVariants as L
 use Rattle.seuss_program.specs.Attempts.{tight}
 use Rattle.seuss_program.specs.Initials.{initial}
-use Rattle.seuss_program.specs.Orders.{stops, IsLawful}
+use Rattle.seuss_program.specs.Orders.{stops, IsLawful, slots_of, action_of}
 use Rattle.seuss_program.specs.Reports.{report, last_line}
 
--- the actions of an order, and the outcomes
+-- the actions of an order
 abbrev pub actions_of : List Placed → List ℕ
 actions_of order = map (λ (p : Placed). p.action) order
 
+-- its outcomes
 abbrev pub outcomes_of : List Placed → List Outcome
 outcomes_of order = map (λ (p : Placed). p.outcome) order
 
@@ -32,29 +33,34 @@ status_of L.Done = 0
 status_of (L.Trapped a t) = 1
 status_of (L.Spent a) = 2
 
--- The text is the report of a lawful order of attempts, and executing them one at a time in that order,
--- from the initial state with this input, gives the printed outcomes and exactly the printed boxes.
-pub record IsReport (p : Program) (input : List ℤ) (rounds budget status : ℕ) (text : List ℕ) : Type 0 where
-  pub order : List Placed
-  pub state : State
-  pub lawful : IsLawful (length p.actions) rounds order
+-- The text is the report of this lawful order of attempts and of this state, which executing the actions of
+-- the order one at a time, from the initial state with this input, leaves with the same outcomes.
+pub record Reports (p : Program) (input : List ℤ) (rounds budget : ℕ) (order : List Placed) (state : State)
+    (status : ℕ) (text : List ℕ) : Type 0 where
+  pub lawful : IsLawful (slots_of p) rounds order
   pub one_at_a_time : IsTight p (initial p input) budget order state
   pub printed : text ≡ report p rounds order state
   pub ended : status ≡ status_of (last_line order)
 
--- an order of n actions, of which attempt k stands at place k
-abbrev pub IsInTurn : ℕ → List Placed → Type 0
-IsInTurn n order = (k : ℕ) (d : Placed) → k < length order →
-    ((slice_index_or order k d).attempt ≡ k) × ((slice_index_or order k d).action ≡ k % n)
+-- the text is the report of some lawful order of attempts and of the state that it leaves
+abbrev pub IsReport : Program → List ℤ → ℕ → ℕ → ℕ → List ℕ → Type 0
+IsReport p input rounds budget status text =
+    (order : List Placed) × (state : State) × Reports p input rounds budget order state status text
+
+-- an order of attempts of slots, of which attempt k stands at place k
+abbrev pub IsInTurn : List ℕ → List Placed → Type 0
+IsInTurn slots order = (k : ℕ) (d : Placed) → k < length order →
+    ((slice_index_or order k d).attempt ≡ k)
+    × ((slice_index_or order k d).action ≡ action_of slots (k % length slots))
 
 -- no attempt stopped the run
 abbrev pub NoneStops : List Placed → Type 0
 NoneStops order = All (λ (p : Placed). stops p.outcome ≡ false) order
 
 -- One attempt more: its place in the run, its action, and its outcome, which says whether the run stops.
-pub record Adds (n attempt : ℕ) (before after : List Placed) (stopped : Bool) : Type 0 where
+pub record Adds (slots : List ℕ) (attempt : ℕ) (before after : List Placed) (stopped : Bool) : Type 0 where
   pub placed : Placed
   pub last : after ≡ before ++ placed ∷ []
   pub attempt_is : placed.attempt ≡ attempt
-  pub action_is : placed.action ≡ attempt % n
+  pub action_is : placed.action ≡ action_of slots (attempt % length slots)
   pub stopped_is : stopped ≡ stops placed.outcome

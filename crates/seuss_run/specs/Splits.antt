@@ -7,11 +7,11 @@ EndsLine bytes = (bytes ≡ []) ⊎ ((front : List ℕ) × (bytes ≡ front ++ 1
 
 -- `%%` with a line feed, or a carriage return and a line feed; at the very end also alone
 abbrev pub IsMarker : List ℕ → List ℕ → Type 0
-IsMarker marker behind =
+IsMarker marker input =
     (marker ≡ codes "%%" ++ 10 ∷ []) ⊎ ((marker ≡ codes "%%" ++ 13 ∷ 10 ∷ [])
-    ⊎ ((marker ≡ codes "%%") × (behind ≡ [])))
+    ⊎ ((marker ≡ codes "%%") × (input ≡ [])))
 
--- behind whole lines of the program comes a line `%%`, and behind it the input
+-- after whole lines of the program comes a line `%%`, and after it the input
 pub record SplitsAt (bytes program input : List ℕ) : Type 0 where
   pub marker : List ℕ
   pub spelled : bytes ≡ program ++ (marker ++ input)

@@ -1,4 +1,4 @@
--- Checks one behind the other, of which the first one that fails counts.
+-- Checks one after the other, of which the first one that fails counts.
 use Rattle.std.specs.Prelude.{◌≡◌, ℕ, List, [], ◌∷◌, ◌⊎◌, Result, Ok, Err}
 use Rattle.report_text.specs.declared.refusals.Refused.{Refused}
 
@@ -7,7 +7,7 @@ infixr 5 ◌>=>◌
 abbrev pub Stage : Type 0 → Type 0 → Type 1
 Stage A B = A → Result B Refused → Type 0
 
--- a check, and behind it, where it passes, the next one
+-- a check, and after it, where it passes, the next one
 abbrev pub ◌>=>◌ : {A B C : Type 0} → Stage A B → Stage B C → Stage A C
 (◌>=>◌) {B = B} first next given (Ok made) = (between : B) × first given (Ok between)
     × next between (Ok made)
@@ -25,11 +25,12 @@ passes lines refusal given (Ok kept) = (kept ≡ given) × (lines given ≡ [])
 passes lines refusal given (Err why) =
     (line : ℕ) × (others : List ℕ) × (lines given ≡ line ∷ others) × (why ≡ refusal line)
 
--- a check of the first of two, or of the second, beside which the other one stays
+-- a check of the first of two, beside which the second one stays
 abbrev pub first_of : {A B C : Type 0} → Stage A B → Stage (A × C) (B × C)
 first_of stage given (Ok made) = stage given.0 (Ok made.0) × (made.1 ≡ given.1)
 first_of stage given (Err why) = stage given.0 (Err why)
 
+-- a check of the second of two, beside which the first one stays
 abbrev pub second_of : {A B C : Type 0} → Stage A B → Stage (C × A) (C × B)
 second_of stage given (Ok made) = (made.0 ≡ given.0) × stage given.1 (Ok made.1)
 second_of stage given (Err why) = stage given.1 (Err why)

@@ -1,3 +1,5 @@
+//! The numbers of actions that words name.
+
 ghost use Rattle.std.specs.Prelude.{◌≡◌, ◌≤◌, length, IfOk};
 ghost use Rattle.seuss_run.specs.Commands.{action_word};
 ghost use Rattle.seuss_run.specs.Verdicts.{action_number as number_in};

@@ -1,3 +1,5 @@
+//! Why bytes ask for nothing that can be done.
+
 ghost use Rattle.std.specs.Prelude.{◌≡◌};
 ghost use Rattle.seuss_run.specs.declared.halt.Halt.TheVariants.{Memory as Wanting};
 

@@ -3,18 +3,20 @@
 
 mod actions;
 mod answer;
+mod commands;
+mod ends;
 mod halt;
 mod laws;
 mod loading;
+mod preparing;
 mod reading;
-mod run;
 mod split;
 mod top;
 mod words;
 mod writing;
 
 pub use laws::{one_verdict, text_tells_order};
-pub use reading::{MOST_BYTES, ReadRefusal, read_all};
+pub use reading::{MOST_BYTES, PIECE, ReadRefusal, read_all};
 pub use top::{seuss, seuss_still};
 pub use words::{Command, read_words};
 pub use writing::write_all;

@@ -1,5 +1,8 @@
-ghost use Rattle.std.specs.Prelude.{◌≤◌, length, IfOk};
+//! What the bytes that were read are: a program, its input and its certificates, or why they are refused.
+
+ghost use Rattle.std.specs.Prelude.{◌≤◌, length, All, IsTrue, IfOk};
 ghost use Rattle.seuss_run.specs.Loadings.{Meets};
+ghost use Rattle.seuss_run.specs.declared.reading.TheConstants.{MOST_BYTES};
 ghost use Rattle.compat_matrix.specs.Certificates.{AreCertificates};
 ghost use Rattle.seuss_run.specs.Verdicts.{has_tokens, has_tree, is_spelled, is_resolved, is_ordered};
 ghost use Rattle.seuss_run.specs.Verdicts.{has_input};
@@ -7,6 +10,7 @@ ghost use Rattle.seuss_run.specs.Verdicts.{is_certified, is_loaded, is_loaded_pa
 ghost use Rattle.seuss_run.specs.Stages.{◌>=>◌};
 ghost use Rattle.seuss_print.specs.Printable.{IsPrintable};
 ghost use Rattle.seuss_program.specs.Keeping.{Keeps};
+ghost use Rattle.seuss_program.specs.Values.{fits};
 ghost use Rattle.seuss_program.specs.WellFormed.{IsWellFormed};
 ghost use Rattle.seuss_text.specs.Rows.{AreTokens};
 ghost use Rattle.seuss_text.specs.Limits.{AreInLimits};
@@ -116,7 +120,8 @@ fn text_program(alloc: Global, text: &[u8]) -> Result<Program, Halt>
 
 /// The numbers of an input.
 fn text_input(alloc: Global, text: &[u8]) -> Result<Ints, Halt>
-    ensures { Meets has_input text.now (λ numbers. numbers) result }
+    ensures meets { Meets has_input text.now (λ numbers. numbers) result }
+    ensures fit { IfOk result (All (λ z. IsTrue (fits z))) }
 {
     match parse_input(alloc, text) {
         Ok(numbers) => Ok(numbers),
@@ -148,6 +153,7 @@ fn load_parts(alloc: Global, text: &[u8], rest: &[u8]) -> Result<Job, Halt>
     ensures meets { Meets is_loaded_parts (text.now, rest.now) (λ job. (job.program, job.input)) result }
     ensures keeps { IfOk result (λ job. Keeps job.program) }
     ensures few { IfOk result (λ job. length job.program.actions ≤ 256) }
+    ensures fit { IfOk result (λ job. All (λ z. IsTrue (fits z)) job.input) }
     ensures certified { IfOk result (λ job. AreCertificates job.program job.certificates) }
 {
     let program = text_program(alloc, text)?;
@@ -162,10 +168,11 @@ fn load_parts(alloc: Global, text: &[u8], rest: &[u8]) -> Result<Job, Halt>
 
 /// A program with its input, out of the bytes that were read.
 pub(crate) fn load(alloc: Global, bytes: &[u8]) -> Result<Job, Halt>
-    requires { length bytes.now ≤ 2097156 }
+    requires { length bytes.now ≤ MOST_BYTES }
     ensures meets { Meets is_loaded bytes.now (λ job. (job.program, job.input)) result }
     ensures keeps { IfOk result (λ job. Keeps job.program) }
     ensures few { IfOk result (λ job. length job.program.actions ≤ 256) }
+    ensures fit { IfOk result (λ job. All (λ z. IsTrue (fits z)) job.input) }
     ensures certified { IfOk result (λ job. AreCertificates job.program job.certificates) }
 {
     let (text, rest) = split(bytes);
@@ -174,7 +181,7 @@ pub(crate) fn load(alloc: Global, bytes: &[u8]) -> Result<Job, Halt>
 
 /// The tree of the program part of the bytes that were read.
 pub(crate) fn load_tree(alloc: Global, bytes: &[u8]) -> Result<Tree, Halt>
-    requires { length bytes.now ≤ 2097156 }
+    requires { length bytes.now ≤ MOST_BYTES }
     ensures meets { Meets has_tree_alone bytes.now (λ tree. tree) result }
     ensures printable { IfOk result IsPrintable }
 {

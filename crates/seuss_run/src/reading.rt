@@ -1,25 +1,27 @@
-ghost use Rattle.std.specs.Prelude.{◌≡◌, ℕ, ◌<◌, ◌≤◌, List, [], ◌++◌, length, IfSome, Err, IfOk, OnOk};
+//! Reads the bytes of a source to their end, up to a limit.
+
+ghost use Rattle.std.specs.Prelude.{◌≡◌, ℕ, ◌+◌, ◌<◌, ◌≤◌, List, [], ◌++◌, length, IfSome, Err, IfOk, OnOk};
 ghost use Rattle.std.specs.Prelude.{OnErr};
 ghost use Rattle.std.specs.Prelude.{IfErr, IsErrOf};
 ghost use Rattle.seuss_base.specs.Faults.{Rose};
-ghost use Rattle.seuss_run.specs.Readings.{Takes, TakesAll, TakesSome, TakesMore};
+ghost use Rattle.seuss_run.specs.Readings.{Takes, TakesAll, TakesTooMany, TakesWithin};
 ghost use Rattle.seuss_run.specs.declared.reading.ReadRefusal.TheVariants.{Memory};
 
 use seuss_base::{Failed, List, Source};
 use std::alloc::{AllocError, Global};
 
-/// The most bytes that are read.
+/// The most bytes that are read: a program and an input of 1,048,576 bytes each, and a line between them.
 pub const MOST_BYTES: usize = 2_097_156;
 
 /// How many bytes are asked for at once.
-const PIECE: usize = 4096;
+pub const PIECE: usize = 4096;
 
 /// Why the bytes of a source were not read to their end.
 #[derive(Clone, Copy, Debug, PartialEq, Eq)]
 pub enum ReadRefusal {
     /// A read failed.
     Fault,
-    /// More than 2,097,156 bytes were taken.
+    /// More than `MOST_BYTES` bytes were taken.
     TooLong,
     Memory,
 }
@@ -39,8 +41,9 @@ fn read_piece<R: Source>(source: &mut R, bytes: &mut Vec<u8>) -> Result<usize, R
         × Takes (R.left source.old) (R.left source.new) piece) }
     ensures end { IfOk result (λ n. n ≡ 0 → IfSome (R.left source.old) (λ left. left ≡ [])) }
     ensures short { IfOk result (λ n. n ≤ PIECE) }
-    ensures some { OnErr result (TakesSome (R.left source.old) (R.left source.new)) }
+    ensures some { OnErr result (TakesWithin PIECE (R.left source.old) (R.left source.new)) }
     ensures fault { IsErrOf result ReadRefusal.Fault → Rose (R.faults source.old) (R.faults source.new) }
+    ensures kept { IsErrOf result ReadRefusal.Fault → R.left source.new ≡ R.left source.old }
     ensures not_long { IsErrOf result ReadRefusal.TooLong → ⊥ }
     ensures counted { R.faults source.old ≤ R.faults source.new }
 {
@@ -54,14 +57,17 @@ fn read_piece<R: Source>(source: &mut R, bytes: &mut Vec<u8>) -> Result<usize, R
 }
 
 /// Reads the bytes of a source to their end. Every turn takes at least one byte, and no more than
-/// 2,097,156 bytes are answered.
+/// `MOST_BYTES` are answered. `TooLong` comes exactly where more than these were taken, and a fault only
+/// before that.
 pub fn read_all<R: Source>(alloc: Global, source: &mut R) -> Result<List<u8>, ReadRefusal>
     ensures all { IfOk result (λ bytes. TakesAll (R.left source.old) (R.left source.new) bytes) }
     ensures within { IfOk result (λ bytes. length bytes ≤ MOST_BYTES) }
     ensures too_long { IsErrOf result ReadRefusal.TooLong →
-        TakesMore MOST_BYTES (R.left source.old) (R.left source.new) }
-    ensures fault { IsErrOf result ReadRefusal.Fault → Rose (R.faults source.old) (R.faults source.new) }
-    ensures some { OnErr result (TakesSome (R.left source.old) (R.left source.new)) }
+        TakesTooMany (R.left source.old) (R.left source.new) }
+    ensures fault { IsErrOf result ReadRefusal.Fault → Rose (R.faults source.old) (R.faults source.new)
+        × TakesWithin MOST_BYTES (R.left source.old) (R.left source.new) }
+    ensures some { OnErr result
+        (TakesWithin (MOST_BYTES + PIECE) (R.left source.old) (R.left source.new)) }
     ensures counted { R.faults source.old ≤ R.faults source.new }
 {
     let mut bytes = Vec::new(alloc);

@@ -1,3 +1,5 @@
+//! The program and the input among the bytes that were read.
+
 ghost use Rattle.std.specs.Prelude.{◌≡◌, ℕ, ◌+◌, ◌-◌, ◌<◌, ◌≤◌, ◌≢◌, ◌⊎◌, ◌↔◌, List, [], ◌∷◌, ◌++◌, length};
 ghost use Rattle.std.specs.Prelude.{slice_index, codes, IsTrue};
 ghost use Rattle.seuss_run.specs.Splits.{IsSplit};

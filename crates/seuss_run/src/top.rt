@@ -1,16 +1,13 @@
-ghost use Rattle.std.specs.Prelude.{◌≡◌, ℕ, Bool, false, true, ◌≤◌, ◌⊎◌, List, [], map, string_bytes, Ok};
-ghost use Rattle.std.specs.Prelude.{Err};
-ghost use Rattle.std.specs.Prelude.{Some, IfOk, IsErrOf, IsTrue, ◌↔◌};
+//! What the program does for the words after its name.
+
+ghost use Rattle.std.specs.Prelude.{◌≡◌, ℕ, ◌≤◌, List, map, string_bytes, IfOk, IsErrOf, IsTrue, ◌↔◌};
 ghost use Rattle.seuss_base.specs.Faults.{Rose};
-ghost use Rattle.seuss_base.specs.Sinks.{Adds as Writes};
-ghost use Rattle.seuss_run.specs.Answers.{Answers, Ends, EndsDone, EndsRefused, HasNoCommand, IsAny};
-ghost use Rattle.seuss_run.specs.Answers.{IsStill};
-ghost use Rattle.seuss_run.specs.Answers.{Knows, WereRead, usage};
-ghost use Rattle.seuss_run.specs.Commands.{IsCommand};
-ghost use Rattle.seuss_run.specs.Verdicts.{IsVerdict, Task};
-ghost use Rattle.seuss_run.specs.Writings.{AddsFront};
-ghost use Rattle.seuss_run.specs.declared.words.Command.{Command as Ordered};
-ghost use Rattle.report_text.specs.declared.refusals.Refused.{Refused as Reason};
+ghost use Rattle.seuss_run.specs.Answers.{Answers, usage};
+ghost use Rattle.seuss_run.specs.Answers.{WereRead};
+ghost use Rattle.seuss_run.specs.Commands.{HasLimits};
+ghost use Rattle.seuss_run.specs.Promises.{Done, Complete, RefusedSo, RefusedExactly, ToldUsage};
+ghost use Rattle.seuss_run.specs.Promises.{UsageExactly, ReadFailed, WriteFailed, AfterMemory};
+ghost use Rattle.seuss_run.specs.Served.{AnswersWords, HasNoCommand, IsAny, IsStill, Knows};
 
 use crate::answer::{Answer, answer_bytes, refused};
 use crate::laws::one_verdict;
@@ -42,6 +39,14 @@ impl From<Memory> for Stop {
     }
 }
 
+/// Which commands a call serves.
+#[derive(Clone, Copy, Debug, PartialEq, Eq)]
+pub(crate) enum Served {
+    All,
+    /// Those that wait for no other thread.
+    Still,
+}
+
 /// The answer where the words are no command.
 fn usage_answer(alloc: Global) -> Result<Answer, Memory>
     ensures status { IfOk result (λ a. a.status ≡ 4) }
@@ -59,7 +64,7 @@ fn answer_command<R: Source>(
     command: &Command,
     source: &mut R,
 ) -> Result<Answer, Stop>
-    requires { (words : List (List ℕ)) × IsCommand words command.now }
+    requires { HasLimits command.now }
     ensures answers { IfOk result
         (λ a. (bytes : List ℕ) × WereRead (R.left source.old) (R.left source.new) bytes
         × Answers command.now bytes a.status a.text) }
@@ -73,35 +78,39 @@ fn answer_command<R: Source>(
     }
 }
 
-/// The command is known: `all` are, or those alone that wait for no other thread.
-fn is_known(command: &Command, all: bool) -> bool
-    ensures { IsTrue result ↔ Knows all command.now }
+/// The command is one of those that are served.
+fn is_known(command: &Command, served: Served) -> bool
+    ensures { IsTrue result ↔ Knows served command.now }
 {
     match command {
-        Command::Run { .. } => all,
-        Command::Tight { .. } | Command::Matrix | Command::Check | Command::Print => true,
+        Command::Run { .. } => matches!(served, Served::All),
+        Command::Sim { .. }
+        | Command::Tight { .. }
+        | Command::Matrix
+        | Command::Check
+        | Command::Print => true,
     }
 }
 
 /// What the words and the source answer: a status below 5, and the whole text that is written with it.
-/// Where the words are no command, nothing is read. `all` says that every command is known, and else
-/// those alone that wait for no other thread.
+/// Where the words are no command that is served, nothing is read.
 #[tactic(auto, unfolding(crate::specs::Answers::Answers))]
 fn answer<R: Source>(
     alloc: Global,
     words: &[String],
-    all: bool,
+    served: Served,
     source: &mut R,
 ) -> Result<Answer, Stop>
     ensures ends { IfOk result
-        (λ a. Ends (Knows all) (map string_bytes words.now) (R.left source.old) (R.left source.new) a.status
-        a.text) }
+        (λ a. AnswersWords (Knows served) (map string_bytes words.now) (R.left source.old)
+        (R.left source.new) a.status a.text) }
     ensures untouched { IfOk result (λ a. a.status ≡ 4 → source.new ≡ source.old) }
     ensures fault { IsErrOf result Stop.Fault → Rose (R.faults source.old) (R.faults source.new) }
-    ensures command { IsErrOf result Stop.Fault → HasNoCommand (Knows all) (map string_bytes words.now) → ⊥ }
+    ensures command { IsErrOf result Stop.Fault →
+        HasNoCommand (Knows served) (map string_bytes words.now) → ⊥ }
 {
     match read_words(alloc, words)? {
-        Some(command) if is_known(&command, all) => answer_command(alloc, &command, source),
+        Some(command) if is_known(&command, served) => answer_command(alloc, &command, source),
         _ => Ok(usage_answer(alloc)?),
     }
 }
@@ -110,30 +119,31 @@ fn answer<R: Source>(
 fn serve<R: Source, W: Sink>(
     alloc: Global,
     words: &[String],
-    all: bool,
+    served: Served,
     source: &mut R,
     sink: &mut W,
 ) -> u8
     ensures within { result ≤ 7 }
-    ensures usage { result ≡ 4 → HasNoCommand (Knows all) (map string_bytes words.now)
-        × (source.new ≡ source.old)
-        × Writes (W.written sink.old) (W.written sink.new) usage }
-    ensures refused { result ≡ 3 → (text : List ℕ)
-        × EndsRefused (Knows all) (map string_bytes words.now) (R.left source.old) (R.left source.new) text
-        × Writes (W.written sink.old) (W.written sink.new) text }
-    ensures done { result ≤ 2 → (text : List ℕ) × EndsDone (Knows all) (map string_bytes words.now)
-        (R.left source.old) (R.left source.new) result text
-        × Writes (W.written sink.old) (W.written sink.new) text }
-    ensures read_fault { result ≡ 5 → Rose (R.faults source.old) (R.faults source.new)
-        × (sink.new ≡ sink.old)
-        × (HasNoCommand (Knows all) (map string_bytes words.now) → ⊥) }
-    ensures write_fault { result ≡ 6 → Rose (W.faults sink.old) (W.faults sink.new) × (status : ℕ)
-        × (text : List ℕ)
-        × Ends (Knows all) (map string_bytes words.now) (R.left source.old) (R.left source.new) status text
-        × AddsFront (W.written sink.old) (W.written sink.new) text }
-    ensures memory { result ≡ 7 → sink.new ≡ sink.old }
+    ensures done { result ≤ 2 → Done (Knows served) (map string_bytes words.now)
+        (R.left source.old) (R.left source.new) (W.written sink.old) (W.written sink.new) result }
+    ensures complete { Complete (Knows served) (map string_bytes words.now) (R.left source.old) result }
+    ensures refused { result ≡ 3 → RefusedSo (Knows served) (map string_bytes words.now)
+        (R.left source.old) (R.left source.new) (W.written sink.old) (W.written sink.new) }
+    ensures refused_exactly { RefusedExactly (Knows served) (map string_bytes words.now)
+        (R.left source.old) result }
+    ensures usage { result ≡ 4 → ToldUsage (Knows served) (map string_bytes words.now)
+        source.old source.new (W.written sink.old) (W.written sink.new) }
+    ensures usage_exactly { UsageExactly (Knows served) (map string_bytes words.now) result }
+    ensures read_fault { result ≡ 5 → ReadFailed (Knows served) (map string_bytes words.now)
+        (R.faults source.old) (R.faults source.new) sink.old sink.new }
+    ensures write_fault { result ≡ 6 → WriteFailed (Knows served) (map string_bytes words.now)
+        (W.faults sink.old) (W.faults sink.new)
+        (R.left source.old) (R.left source.new) (W.written sink.old) (W.written sink.new) }
+    ensures memory { result ≡ 7 → AfterMemory (Knows served) (map string_bytes words.now) sink.old sink.new
+        (R.left source.old) (R.left source.new) (W.written sink.old) (W.written sink.new) }
 {
-    let answer = match answer(alloc, words, all, source) {
+    one_verdict();
+    let answer = match answer(alloc, words, served, source) {
         Ok(answer) => answer,
         Err(Stop::Fault) => return 5,
         Err(Stop::Memory) => return 7,
@@ -144,7 +154,7 @@ fn serve<R: Source, W: Sink>(
     }
 }
 
-/// Does what the words after the program's name ask for, where that is `tight`, `matrix`, `check` or
+/// Does what the words after the program's name ask for, where that is `sim`, `tight`, `matrix`, `check` or
 /// `print`: reads the source, writes the whole text to the sink, and answers the status of the program. It
 /// waits for no other thread, and returns.
 ///
@@ -159,40 +169,31 @@ pub fn seuss_still<R: Source, W: Sink>(
 ) -> u8
     ensures within { result ≤ 7 }
 
-    // What was written is the whole text of the command, with the status of `Does`.
-    ensures done { result ≤ 2 → (text : List ℕ) × EndsDone IsStill (map string_bytes words.now)
-        (R.left source.old) (R.left source.new) result text
-        × Writes (W.written sink.old) (W.written sink.new) text }
-    ensures complete { (c : Ordered) (bytes : List ℕ) (task : Task) → IsStill c →
-        IsCommand (map string_bytes words.now) c →
-        R.left source.old ≡ Some bytes → IsVerdict c bytes (Ok task) → (result ≤ 2) ⊎ (5 ≤ result) }
+    // What was written is the whole text of the command.
+    ensures done { result ≤ 2 → Done IsStill (map string_bytes words.now)
+        (R.left source.old) (R.left source.new) (W.written sink.old) (W.written sink.new) result }
+    ensures complete { Complete IsStill (map string_bytes words.now) (R.left source.old) result }
 
     // The bytes are refused at the first check that fails, and the line of the refusal was written.
-    ensures refused { result ≡ 3 → (text : List ℕ)
-        × EndsRefused IsStill (map string_bytes words.now) (R.left source.old) (R.left source.new) text
-        × Writes (W.written sink.old) (W.written sink.new) text }
-    ensures refused_exactly { (c : Ordered) (bytes : List ℕ) (why : Reason) → IsStill c →
-        IsCommand (map string_bytes words.now) c →
-        R.left source.old ≡ Some bytes → IsVerdict c bytes (Err why) → (result ≡ 3) ⊎ (5 ≤ result) }
+    ensures refused { result ≡ 3 → RefusedSo IsStill (map string_bytes words.now)
+        (R.left source.old) (R.left source.new) (W.written sink.old) (W.written sink.new) }
+    ensures refused_exactly { RefusedExactly IsStill (map string_bytes words.now) (R.left source.old) result }
 
     // The words are none of these commands: nothing was read.
-    ensures usage { result ≡ 4 → HasNoCommand IsStill (map string_bytes words.now)
-        × (source.new ≡ source.old)
-        × Writes (W.written sink.old) (W.written sink.new) usage }
-    ensures usage_exactly { HasNoCommand IsStill (map string_bytes words.now) → (result ≡ 4) ⊎ (6 ≤ result) }
+    ensures usage { result ≡ 4 → ToldUsage IsStill (map string_bytes words.now)
+        source.old source.new (W.written sink.old) (W.written sink.new) }
+    ensures usage_exactly { UsageExactly IsStill (map string_bytes words.now) result }
 
     // A fault is answered only where its count rose. Nothing was written, or a front of the text.
-    ensures read_fault { result ≡ 5 → Rose (R.faults source.old) (R.faults source.new)
-        × (sink.new ≡ sink.old)
-        × (HasNoCommand IsStill (map string_bytes words.now) → ⊥) }
-    ensures write_fault { result ≡ 6 → Rose (W.faults sink.old) (W.faults sink.new) × (status : ℕ)
-        × (text : List ℕ)
-        × Ends IsStill (map string_bytes words.now) (R.left source.old) (R.left source.new) status text
-        × AddsFront (W.written sink.old) (W.written sink.new) text }
-    ensures memory { result ≡ 7 → sink.new ≡ sink.old }
+    ensures read_fault { result ≡ 5 → ReadFailed IsStill (map string_bytes words.now)
+        (R.faults source.old) (R.faults source.new) sink.old sink.new }
+    ensures write_fault { result ≡ 6 → WriteFailed IsStill (map string_bytes words.now)
+        (W.faults sink.old) (W.faults sink.new)
+        (R.left source.old) (R.left source.new) (W.written sink.old) (W.written sink.new) }
+    ensures memory { result ≡ 7 → AfterMemory IsStill (map string_bytes words.now) sink.old sink.new
+        (R.left source.old) (R.left source.new) (W.written sink.old) (W.written sink.new) }
 {
-    one_verdict();
-    serve(alloc, words, false, source, sink)
+    serve(alloc, words, Served::Still, source, sink)
 }
 
 /// Does what the words after the program's name ask for: reads the source, writes the whole text to the
@@ -212,38 +213,31 @@ pub fn seuss<H: Threads + Wait + Sync, R: Source, W: Sink, G: Gate + Sync>(
 
     // The headline: what a run wrote is the report of a lawful order of attempts, whose actions, executed
     // one at a time in that order, give the printed outcomes and leave exactly the printed boxes.
-    ensures done { result ≤ 2 → (text : List ℕ) × EndsDone IsAny (map string_bytes words.now)
-        (R.left source.old) (R.left source.new) result text
-        × Writes (W.written sink.old) (W.written sink.new) text }
-    ensures complete { (c : Ordered) (bytes : List ℕ) (task : Task) →
-        IsCommand (map string_bytes words.now) c →
-        R.left source.old ≡ Some bytes → IsVerdict c bytes (Ok task) → (result ≤ 2) ⊎ (5 ≤ result) }
+    ensures done { result ≤ 2 → Done IsAny (map string_bytes words.now)
+        (R.left source.old) (R.left source.new) (W.written sink.old) (W.written sink.new) result }
+    ensures complete { Complete IsAny (map string_bytes words.now) (R.left source.old) result }
 
     // The bytes are refused at the first check that fails, and the line of the refusal was written.
-    ensures refused { result ≡ 3 → (text : List ℕ)
-        × EndsRefused IsAny (map string_bytes words.now) (R.left source.old) (R.left source.new) text
-        × Writes (W.written sink.old) (W.written sink.new) text }
-    ensures refused_exactly { (c : Ordered) (bytes : List ℕ) (why : Reason) →
-        IsCommand (map string_bytes words.now) c →
-        R.left source.old ≡ Some bytes → IsVerdict c bytes (Err why) → (result ≡ 3) ⊎ (5 ≤ result) }
+    ensures refused { result ≡ 3 → RefusedSo IsAny (map string_bytes words.now)
+        (R.left source.old) (R.left source.new) (W.written sink.old) (W.written sink.new) }
+    ensures refused_exactly { RefusedExactly IsAny (map string_bytes words.now) (R.left source.old) result }
 
     // The words are no command: nothing was read.
-    ensures usage { result ≡ 4 → HasNoCommand IsAny (map string_bytes words.now) × (source.new ≡ source.old)
-        × Writes (W.written sink.old) (W.written sink.new) usage }
-    ensures usage_exactly { HasNoCommand IsAny (map string_bytes words.now) → (result ≡ 4) ⊎ (6 ≤ result) }
+    ensures usage { result ≡ 4 → ToldUsage IsAny (map string_bytes words.now)
+        source.old source.new (W.written sink.old) (W.written sink.new) }
+    ensures usage_exactly { UsageExactly IsAny (map string_bytes words.now) result }
 
     // A fault is answered only where its count rose. Nothing was written, or a front of the text.
-    ensures read_fault { result ≡ 5 → Rose (R.faults source.old) (R.faults source.new)
-        × (sink.new ≡ sink.old) }
-    ensures write_fault { result ≡ 6 → Rose (W.faults sink.old) (W.faults sink.new) × (status : ℕ)
-        × (text : List ℕ)
-        × Ends IsAny (map string_bytes words.now) (R.left source.old) (R.left source.new) status text
-        × AddsFront (W.written sink.old) (W.written sink.new) text }
-    ensures memory { result ≡ 7 → sink.new ≡ sink.old }
+    ensures read_fault { result ≡ 5 → ReadFailed IsAny (map string_bytes words.now)
+        (R.faults source.old) (R.faults source.new) sink.old sink.new }
+    ensures write_fault { result ≡ 6 → WriteFailed IsAny (map string_bytes words.now)
+        (W.faults sink.old) (W.faults sink.new)
+        (R.left source.old) (R.left source.new) (W.written sink.old) (W.written sink.new) }
+    ensures memory { result ≡ 7 → AfterMemory IsAny (map string_bytes words.now) sink.old sink.new
+        (R.left source.old) (R.left source.new) (W.written sink.old) (W.written sink.new) }
 {
-    one_verdict();
     if asks_run(words) {
-        serve(alloc, words, true, source, sink)
+        serve(alloc, words, Served::All, source, sink)
     } else {
         seuss_still(alloc, words, source, sink)
     }

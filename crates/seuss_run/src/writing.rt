@@ -1,3 +1,5 @@
+//! Writes a whole text to a sink.
+
 ghost use Rattle.std.specs.Prelude.{◌≡◌, ◌≤◌, OnOk, OnErr};
 ghost use Rattle.seuss_base.specs.Faults.{Rose};
 ghost use Rattle.seuss_base.specs.Sinks.{Adds};

@@ -21,7 +21,7 @@ returns c =
     }) c.one_reading.ensures)
     (λ text found met. one_tree c.one_answer.ensures c.tokens_have_kinds.ensures found.0 found.1
     (subst (λ t. AreTokens t found.1) (sym met.0) met.2)))
-    (one_has_input c.one_input.ensures)
+    c.one_order_of_levels.ensures.levels (one_has_input c.one_input.ensures)
     (one_certified (record {
       none = c.one_refusal.ensures.none;
       line = c.one_refusal.ensures.line;

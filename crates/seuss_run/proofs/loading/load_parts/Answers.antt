@@ -22,7 +22,7 @@ returns-in_err-input-clause-meets c =
     (after_program c.args.text.now rest program loaded (Err halt) c.in_ok-program.ensures.meets
     (stopped (second_of has_input) (first_of is_certified) (program, rest)
     (λ numbers. (program, numbers)) loaded halt
-    (met_second has_input rest program (λ numbers. numbers) (Err halt) c.in_err-input.ensures)))
+    (met_second has_input rest program (λ numbers. numbers) (Err halt) c.in_err-input.ensures.meets)))
 
 -- the certificates are refused
 pub returns-in_err-certificates-clause-meets : goal.returns-in_err-certificates-clause-meets
@@ -33,7 +33,7 @@ returns-in_err-certificates-clause-meets c =
     same_halt is_loaded_parts (c.args.text.now, c.args.rest.now) loaded halt
     c.from_residual-in_err-certificates.result c.from_residual-in_err-certificates.ensures.1
     (after_input c.args.text.now c.args.rest.now program loaded (Err halt) c.in_ok-program.ensures.meets
-    input c.in_ok-input.ensures
+    input c.in_ok-input.ensures.meets
     (met_first {M = List Certificate} is_certified program input (λ certificates. program) (Err halt)
     c.in_err-certificates.ensures.meets))
 
@@ -46,4 +46,4 @@ returns-clause-meets c =
       certificates = c.in_ok-certificates.certificates;
     } in
     after_input c.args.text.now c.args.rest.now job.program loaded (Ok job) c.in_ok-program.ensures.meets
-    job.input c.in_ok-input.ensures (c.in_ok-certificates.ensures.meets, refl)
+    job.input c.in_ok-input.ensures.meets (c.in_ok-certificates.ensures.meets, refl)

@@ -1,12 +1,13 @@
 use Rattle.std.proofs.Common.{◌+◌, ◌-◌, ◌≤◌, vec_len}
 use Rattle.seuss_run.specs.Readings.{Takes}
-use Rattle.seuss_run.specs.declared.reading.TheConstants.{MOST_BYTES}
+use Rattle.seuss_run.specs.declared.reading.TheConstants.{MOST_BYTES, PIECE}
 use Rattle.seuss_run.proofs.reading.read_all.Given as goal
 
 -- the bytes so far were taken
 abbrev pub invariant-loop-source : goal.invariant-loop-source
 invariant-loop-source g l = record {
   taken : Takes (g.R.Source.left l.initial.source) (g.R.Source.left l.source) l.bytes.items;
+  few : vec_len l.bytes ≤ MOST_BYTES + PIECE;
   counted : g.R.Source.faults l.initial.source ≤ g.R.Source.faults l.source;
 }
 

@@ -11,5 +11,5 @@ returns-in_ok-refused-in-Err-TooLong-clause-answers g c =
       taken.0,
       inr (taken.1, taken.2),
       long_answers c.args.command.now taken.0 c.in_ok-refused-in-Err-TooLong.field-0.status
-          c.in_ok-refused-in-Err-TooLong.field-0.text taken.1 told.status told.text,
+          c.in_ok-refused-in-Err-TooLong.field-0.text taken.1.0 told.status told.text,
     )

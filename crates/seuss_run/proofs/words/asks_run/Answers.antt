@@ -1,6 +1,6 @@
 use Rattle.std.proofs.Common.{map, ap, sym, codes, string_bytes}
 use Rattle.std.proofs.lemmas.Slice.Eq.{bytes_eq-Decides}
-use Rattle.seuss_run.proofs.WordLemmas.{begins_run}
+use Rattle.seuss_run.proofs.WordLists.{begins_run}
 use Rattle.seuss_run.proofs.words.asks_run.Goals as goal
 
 -- the first word is compared with `run`

@@ -1,14 +1,10 @@
-use Rattle.std.proofs.Common.{◌≡◌, drop, map, length, ◌++◌, string_bytes}
-use Rattle.std.specs.Prelude.{All}
-use Rattle.seuss_run.specs.Commands.{AreNames, action_word}
+use Rattle.std.proofs.Common.{◌≡◌, drop, map, string_bytes}
+use Rattle.seuss_run.specs.Commands.{each_in, action_in}
+use Rattle.seuss_run.proofs.WordLists.{goes_on}
 use Rattle.seuss_run.proofs.words.tight_command.Given as goal
 
--- the words so far are these actions
+-- these are the actions of the words so far
 abbrev pub invariant-loop-word : goal.invariant-loop-word
 invariant-loop-word l =
-    record {
-      spelled : map string_bytes l.words
-          ≡ map action_word l.actions ++ map string_bytes (drop l.word-index l.words);
-      counted : length l.actions ≡ l.word-index;
-      names : All AreNames l.actions;
-    }
+    each_in action_in (map string_bytes l.words)
+    ≡ goes_on action_in l.actions (map string_bytes (drop l.word-index l.words))

@@ -1,0 +1,4 @@
+pub mod Hands
+pub mod RunStates
+pub mod RunTurns
+pub mod TurnSettings

@@ -1,0 +1,13 @@
+//! Runs by turns: virtual workers on one thread, each with at most one pass.
+#![tactic(auto)]
+
+mod clocks;
+mod hand;
+mod keeping;
+pub mod laws;
+mod reading;
+mod recording;
+mod run;
+mod turning;
+
+pub use turning::run_by_turns;
