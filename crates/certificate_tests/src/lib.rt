@@ -1,5 +1,0 @@
-//! Tests of the verdicts on certificates.
-#![tactic(auto)]
-
-#[cfg(test)]
-mod verdicts;
