@@ -1,0 +1,13 @@
+pub mod SpanLaws
+pub mod RegionLaws
+pub mod ExpressionRegions
+pub mod NameRegions
+pub mod TextFits
+pub mod AssignedNames
+pub mod BodyEnds
+pub mod AttemptEnds
+pub mod CasesCover
+pub mod SameValues
+pub mod PropertyValues
+pub mod PerformedActions
+pub mod SafeProperties
