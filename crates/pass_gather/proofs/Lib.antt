@@ -1,0 +1,9 @@
+mod Lists
+mod Owns
+mod Counting
+mod Commits
+mod Apart
+mod Owners
+mod Recording
+mod Ending
+mod Boxes

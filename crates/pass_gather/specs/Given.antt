@@ -1,0 +1,74 @@
+-- The passes that seats were given, and the records of these.
+use Rattle.std.specs.Prelude.{◌≡◌, ℕ, ◌<◌, List, [], ◌∷◌, ◌++◌, length, map, true, Some, slice_get}
+use Rattle.step_journal.specs.Histories.{Log, own_entries}
+use Rattle.step_journal.specs.Journals.{NoteState, ShareState}
+use Rattle.loose_records.specs.declared.record.SchedEntry.{SchedEntry}
+use Rattle.loose_records.specs.declared.record.PassRecord.{PassRecord}
+use Rattle.pass_seats.specs.declared.pass.Done.{Done}
+use Rattle.pass_seats.specs.declared.pass.SeatPass.{SeatPass}
+use Rattle.pass_seats.specs.Names.{Names}
+use Rattle.pass_seats.specs.Seats.{SeatState, IsSeat, IsWhole, is_done, start_of}
+
+-- the passes that the seats were given, seat by seat
+abbrev pub given_of : List SeatState → List SeatPass
+given_of [] = []
+given_of (s ∷ seats) = s.passes ++ given_of seats
+
+-- the note of a seat, and of a pass, of the scheduler's journal
+abbrev pub seat_note : SeatState → NoteState SchedEntry
+seat_note s = s.note
+
+abbrev pub pass_note : SeatPass → NoteState SchedEntry
+pass_note p = p.note
+
+-- all notes of the scheduler's journal: those of the seats, and then those of the given passes
+abbrev pub notes_of : List SeatState → List (NoteState SchedEntry)
+notes_of seats = map seat_note seats ++ map pass_note (given_of seats)
+
+-- the seat with this number, no call with which was refused for want of memory
+pub record IsSeatAt (names : Names) (number : ℕ) (s : SeatState) : Type 0 where
+  pub number_is : s.number ≡ number
+  pub seat : IsSeat names s
+  pub whole : IsWhole names s
+
+-- all seats of an engine, by their numbers
+pub record AreSeats (names : Names) (seats : List SeatState) : Type 0 where
+  pub many : length seats ≡ names.seats
+  pub each : (w : ℕ) (s : SeatState) → slice_get seats w ≡ Some s → IsSeatAt names w s
+
+-- the seat was given just the passes that it has started, in their order, as far as the journal goes
+abbrev pub TookItsOwn : Log SchedEntry → SeatState → Type 0
+TookItsOwn log s = own_entries s.number log ≡ map start_of s.passes
+
+-- these passes are as many as were started, and each has finished
+pub record AllFinished (starts : ℕ) (given : List SeatPass) : Type 0 where
+  pub many : length given ≡ starts
+  pub done : (j : ℕ) (p : SeatPass) → slice_get given j ≡ Some p → is_done p ≡ true
+
+-- each number below the starts is that of one of these passes
+abbrev pub HaveAllNumbers : ℕ → List SeatPass → Type 0
+HaveAllNumbers starts given = (i : ℕ) → i < starts →
+    (j : ℕ) × (p : SeatPass) × (slice_get given j ≡ Some p) × (p.ticket.pass ≡ i)
+
+-- the record of a pass that has finished
+pub record Tells (p : SeatPass) (r : PassRecord) : Type 0 where
+  pub ticket : r.ticket ≡ p.ticket
+  pub claims : r.claims ≡ p.claims
+  pub commit : p.commit ≡ Some r.commit
+  pub over : p.over ≡ Some r.end
+  pub done : Done
+  pub done_is : p.done ≡ Some done
+  pub verdict : r.verdict ≡ done.verdict
+
+-- the record of one of the given passes, which has this number
+pub record IsRecordOf (given : List SeatPass) (number : ℕ) (r : PassRecord) : Type 0 where
+  pub slot : ℕ
+  pub pass : SeatPass
+  pub there : slice_get given slot ≡ Some pass
+  pub number_is : pass.ticket.pass ≡ number
+  pub tells : Tells pass r
+
+-- the records of the given passes, in the order of their numbers
+pub record Lists (given : List SeatPass) (starts : ℕ) (passes : List PassRecord) : Type 0 where
+  pub many : length passes ≡ starts
+  pub each : (i : ℕ) (r : PassRecord) → slice_get passes i ≡ Some r → IsRecordOf given i r

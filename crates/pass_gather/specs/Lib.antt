@@ -1,0 +1,4 @@
+pub mod Given
+pub mod Closing
+pub mod Gathers
+pub mod Made

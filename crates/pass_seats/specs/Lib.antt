@@ -1,0 +1,9 @@
+pub mod Names
+pub mod Passes
+pub mod Seats
+pub mod Items
+pub mod Desks
+pub mod Steps
+pub mod Starts
+pub mod Finishes
+pub mod Opening
