@@ -37,8 +37,8 @@ use Rattle.pass_seats.specs.declared.pass.SeatPass.{SeatPass}
 use Rattle.pass_seats.specs.Names.{Names, AreNames}
 use Rattle.pass_seats.specs.Passes.{IsSeatPass, HasDone, ComesTo, CommitsSoFar, log_at, step_at, steps_of}
 use Rattle.pass_seats.specs.Passes.{stamps_of}
-use Rattle.pass_seats.specs.Seats.{SeatState, IsClaimed, logs_of}
-use Rattle.pass_gather.specs.Given.{given_of, AreSeats, IsRecordOf, Tells, Lists}
+use Rattle.pass_seats.specs.Seats.{SeatState, IsWhole, IsClaimed, logs_of}
+use Rattle.pass_gather.specs.Given.{given_of, AreSeats, IsSeatAt, IsRecordOf, Tells, Lists}
 use Rattle.pass_gather.specs.Gathers.{GathersBoxes, GathersSched, record_of}
 use Rattle.pass_gather.specs.Made.{IsOwn, IsMadeOnce, SeatsMade}
 use Rattle.pass_gather.proofs.Lists.{none_some, some_same, less_or, get_front, get_prefix, map_prefix}
@@ -48,6 +48,10 @@ use Rattle.pass_gather.proofs.Lists.{same_list, get_contains, contains_get, cont
 use Rattle.pass_gather.proofs.Owns.{own_within, entry_get, own_first}
 use Rattle.pass_gather.proofs.Counting.{numbered_at, started_many}
 use Rattle.pass_gather.proofs.Commits.{PassLaws, legal_at, commits, rises_to}
+
+-- what a seat keeps of its passes, no call with which was refused for want of memory
+pub whole_at : (names : Names) (number : ℕ) (s : SeatState) → IsSeatAt names number s → IsWhole names s
+whole_at names number s is = is.seat.whole is.untorn
 
 -- a given pass with its seat, and its slot there
 pub record IsGiven (seats : List SeatState) (p : SeatPass) : Type 0 where

@@ -40,7 +40,7 @@ use Rattle.pass_gather.proofs.Owns.{own_first}
 use Rattle.pass_gather.proofs.Counting.{started_many}
 use Rattle.pass_gather.proofs.Commits.{PassLaws, commits, rises_to}
 use Rattle.pass_gather.proofs.Owners.{IsGiven, given_seat, seat_given, pass_started, step_there, made_at}
-use Rattle.pass_gather.proofs.Owners.{owner}
+use Rattle.pass_gather.proofs.Owners.{owner, whole_at}
 use Rattle.pass_gather.proofs.Owners.{journal_is}
 
 module _ (names : Names) (code : List Method) (first : ℕ → List Value) (last : State)
@@ -65,7 +65,7 @@ module _ (names : Names) (code : List Method) (first : ℕ → List Value) (last
   kept : (j : ℕ) (p : SeatPass) → slice_get (given_of seats) j ≡ Some p → Kept p
   kept j p at =
       let f = given_seat seats j p at in
-      record { given = f; pass = (are.each f.number f.seat f.there).whole.passes f.slot p f.here }
+      record { given = f; pass = (whole_at names f.number f.seat (are.each f.number f.seat f.there)).passes f.slot p f.here }
 
   -- its start stands in the journal, and its ticket among the started, at its number
   started_at : (j : ℕ) (p : SeatPass) → slice_get (given_of seats) j ≡ Some p →
@@ -259,7 +259,7 @@ module _ (names : Names) (code : List Method) (first : ℕ → List Value) (last
   entry_claimed passes lists b place e at =
       let o = owner names last logs seats are g b place e at in
       entry_recorded passes lists b place e o.number o.seat o.there
-      ((are.each o.number o.seat o.there).whole.claimed b place e o.own)
+      ((whole_at names o.number o.seat (are.each o.number o.seat o.there)).claimed b place e o.own)
 
   -- the parts make a loose record
   pub gathered : (passes : List PassRecord) → Lists (given_of seats) machine.starts passes →
