@@ -1,6 +1,5 @@
 -- What the closes of all boxes promise, with the seats, is what the record needs of them.
-use Rattle.std.proofs.Common.{◌≡◌, ℕ, List, map, All, sym, subst, Some}
-use Rattle.std.specs.Prelude.{slice_get}
+use Rattle.std.proofs.Common.{ℕ, List, map, subst}
 use Rattle.std.proofs.lemmas.List.Elements.{All-contains}
 use Rattle.seuss_program.specs.declared.state.State.{State}
 use Rattle.seuss_program.specs.declared.state.Value.{Value}

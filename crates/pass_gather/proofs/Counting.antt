@@ -19,7 +19,6 @@ use Rattle.loose_records.specs.declared.record.SchedEntry.{SchedEntry}
 use Rattle.loose_records.specs.declared.record.SchedEntry.TheVariants.{Start, Finish}
 use Rattle.loose_records.specs.Entries.{event_of}
 use Rattle.round_ledger.specs.Cells.{IsOwned, IsOpenOrOver, log_events}
-use Rattle.pass_seats.specs.declared.pass.SeatPass.{SeatPass}
 use Rattle.pass_seats.specs.Desks.{finish_of, finishes_in}
 use Rattle.pass_seats.specs.Seats.{SeatState, is_done, start_of}
 use Rattle.pass_gather.specs.Given.{given_of, TookItsOwn, AllFinished}

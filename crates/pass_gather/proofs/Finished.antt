@@ -1,5 +1,5 @@
 -- A pass that has finished has its commit step, its end and its verdict; and the given passes by their numbers.
-use Rattle.std.proofs.Common.{◌≡◌, ℕ, ◌<◌, Bool, true, false, List, length, All, refl, sym, ap, ◌∙◌, subst, arith}
+use Rattle.std.proofs.Common.{◌≡◌, ℕ, ◌<◌, true, false, List, length, All, refl, sym, ap, ◌∙◌, subst, arith}
 use Rattle.std.proofs.Common.{Option, Some, None}
 use Rattle.std.specs.Prelude.{slice_get}
 use Rattle.seuss_base.specs.declared.outcome.PassEnd.{PassEnd}
@@ -12,7 +12,7 @@ use Rattle.pass_seats.specs.declared.pass.SeatPass.{SeatPass}
 use Rattle.pass_seats.specs.Names.{Names}
 use Rattle.pass_seats.specs.Passes.{IsSeatPass, HasDone, ComesTo, steps_of}
 use Rattle.pass_seats.specs.Seats.{SeatState, is_some, is_done, logs_of}
-use Rattle.pass_gather.specs.Given.{given_of, AreSeats, AllFinished, HaveAllNumbers, AreBelow, Lists, Tells}
+use Rattle.pass_gather.specs.Given.{given_of, AreSeats, AllFinished, HaveAllNumbers, AreBelow, Lists}
 use Rattle.pass_gather.specs.Listing.{IsThrough, AreTold, AreNumbered, AreSorted}
 use Rattle.pass_gather.proofs.Lists.{get_below, get_there, get_contains, some_same}
 use Rattle.pass_gather.proofs.Rows.{get-all}

@@ -1,5 +1,5 @@
 -- The notes and shares of the scheduler's journal: those of all seats and of all given passes.
-use Rattle.std.proofs.Common.{◌≡◌, ℕ, zero, ◌+◌, ◌<◌, ◌≤◌, ⊎_elim, List, [], ◌∷◌, ◌++◌, map, length, All, refl, sym, ap}
+use Rattle.std.proofs.Common.{◌≡◌, ℕ, ◌+◌, ◌<◌, ◌≤◌, ⊎_elim, List, [], ◌++◌, map, length, All, sym, ap}
 use Rattle.std.proofs.Common.{◌∙◌, subst, arith, Some, sum_by, count_by, length-append}
 use Rattle.std.specs.Prelude.{slice_get}
 use Rattle.std.specs.List.{AllZip}

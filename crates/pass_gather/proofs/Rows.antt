@@ -1,14 +1,13 @@
 -- Lists whose first elements are changed by another list, lists that are mapped, and lists side by side.
-use Rattle.std.proofs.Common.{◌≡◌, ◌≢◌, ℕ, zero, suc, ◌+◌, ◌<◌, ◌≤◌, ◌⊎◌, inl, inr, ⊎_elim, List, [], ◌∷◌, ◌++◌}
-use Rattle.std.proofs.Common.{map, length, set, All, refl, sym, ap, ◌∙◌, subst, arith, Option, Some, None, sum_by}
-use Rattle.std.proofs.Common.{length-append}
-use Rattle.std.specs.Prelude.{slice_get, slice_index_or, sum, replicate}
+use Rattle.std.proofs.Common.{◌≡◌, ℕ, zero, suc, ◌<◌, ◌⊎◌, inl, inr, List, [], ◌∷◌, ◌++◌}
+use Rattle.std.proofs.Common.{map, length, set, All, refl, sym, ap, ◌∙◌, subst, arith, Some, sum_by}
+use Rattle.std.specs.Prelude.{slice_get, sum, replicate}
 use Rattle.std.specs.List.{AllZip}
 use Rattle.std.proofs.lemmas.List.{map-append, length-map}
 use Rattle.std.proofs.lemmas.List.Elements.{All-nil, All-cons, All-head, All-tail}
 use Rattle.std.proofs.lemmas.List.Sums.{sum_by-cons, sum-map}
 use Rattle.pass_gather.specs.Parting.{each_with}
-use Rattle.pass_gather.proofs.Lists.{none_some, some_same, get_below}
+use Rattle.pass_gather.proofs.Lists.{none_some, some_same}
 
 module _ {A B : Type 0} (f : A → B → A) where
   -- the element after those that were changed

@@ -1,9 +1,7 @@
 -- Where nobody gave up no cell is broken.
-use Rattle.std.proofs.Common.{◌≡◌, ℕ, Bool, true, false, List, map, All, refl, sym, ap, ◌∙◌, subst, Option, Some, None}
-use Rattle.std.specs.Prelude.{slice_get}
+use Rattle.std.proofs.Common.{◌≡◌, ℕ, Bool, true, false, List, map, All, refl, sym, ◌∙◌, Option, None}
 use Rattle.std.proofs.lemmas.List.Elements.{All-map, All-weaker}
 use Rattle.quit_word.specs.Seats as Q
-use Rattle.box_lock.specs.Cells.{CellState}
 use Rattle.pass_seats.specs.Names.{Names}
 use Rattle.pass_seats.specs.Desks.{BoxDeskState, IsBoxDesk, HasSeen}
 use Rattle.pass_seats.specs.Seats.{SeatState}

@@ -1,5 +1,5 @@
 -- Records put into slots by the numbers of their passes, and then listed in the order of these.
-use Rattle.std.proofs.Common.{◌≡◌, ℕ, ◌+◌, ◌<◌, ◌⊎◌, ⊎_elim, List, [], ◌∷◌, ◌++◌, map, length, set, All, refl, sym, ap}
+use Rattle.std.proofs.Common.{◌≡◌, ℕ, ◌<◌, ◌⊎◌, ⊎_elim, List, [], ◌∷◌, ◌++◌, map, length, set, All, sym, ap}
 use Rattle.std.proofs.Common.{◌∙◌, subst, arith, Option, Some, None, length-append, append_assoc}
 use Rattle.std.specs.Prelude.{slice_get, Contains, replicate}
 use Rattle.std.proofs.lemmas.List.{length-map, map-append}
@@ -48,7 +48,7 @@ slots_put records slots r has less = record {
       (λ (t : (j ≡ length records) × (r ≡ q)). (
         r,
         subst (λ (x : PassRecord). slice_get (set slots r.ticket.pass (Some r)) x.ticket.pass ≡ Some (Some r)) t.1
-        (set-here slots r.ticket.pass (Some r) less),
+            (set-here slots r.ticket.pass (Some r) less),
       )) (push-cases records r q j at);
 }
   where

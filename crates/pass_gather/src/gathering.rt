@@ -12,7 +12,9 @@ ghost use Rattle.pass_gather.specs.Gathered.{cell_of, AreBoxes, IsGathered};
 ghost use Rattle.pass_gather.specs.Made.{SeatsMade};
 
 use crate::closing::{close_boxes, close_sched};
-use crate::laws::{a_gathered_run_is_a_loose_record, an_ended_run_is_over, no_pass_is_open, the_scheduler_gathers};
+use crate::laws::{
+    a_gathered_run_is_a_loose_record, an_ended_run_is_over, no_pass_is_open, the_scheduler_gathers,
+};
 use crate::listing::{sort_records, take_passes};
 use crate::parting::{OpenBox, take_desks, take_seats};
 use crate::settling::{audit_all, settle_all};

@@ -96,9 +96,7 @@ pub fn sort_records(alloc: Global, records: Vec<PassRecord>) -> Result<List<Pass
     let slots = put_records(alloc, records)?;
     let mut passes = List::new(alloc);
     for slot in slots {
-        let Some(made) = slot else {
-            unreachable!()
-        };
+        let Some(made) = slot else { unreachable!() };
         passes.push(made)?;
     }
     Ok(passes)

@@ -1,12 +1,12 @@
-use Rattle.std.proofs.Common.{◌≡◌, ℕ, ◌<◌, List, map, length, All, ap, sym, ◌∙◌, subst, arith}
+use Rattle.std.proofs.Common.{◌≡◌, ℕ, ◌<◌, List, map, length, All, ap, sym, ◌∙◌, subst}
 use Rattle.std.specs.List.{AllZip}
 use Rattle.std.proofs.lemmas.List.{length-map}
 use Rattle.std.proofs.lemmas.List.Elements.{All-map, All-weaker}
-use Rattle.step_journal.specs.Histories.{Log, IsNoteOf}
+use Rattle.step_journal.specs.Histories.{IsNoteOf}
 use Rattle.step_journal.specs.Journals.{NoteState, ShareState, IsPair}
 use Rattle.loose_records.specs.declared.record.BoxEntry.{BoxEntry}
 use Rattle.pass_seats.specs.declared.pass.Place.{Place}
-use Rattle.pass_gather.specs.Closing.{IsPlaceAt, note_of, share_of}
+use Rattle.pass_gather.specs.Closing.{IsPlaceAt, note_of}
 use Rattle.pass_gather.proofs.Columns.{column_pairs}
 use Rattle.pass_gather.proofs.Rows.{all-unmap}
 use Rattle.pass_gather.proofs.closing.close_box.Goals as goal

@@ -1,10 +1,5 @@
-use Rattle.std.proofs.Common.{◌≡◌, ◌++◌, ◌∷◌, [], map, List, length, All, refl, ap, sym, ◌∙◌, subst}
-use Rattle.std.proofs.lemmas.List.{map-append}
 use Rattle.std.proofs.lemmas.List.Elements.{All-push}
-use Rattle.step_journal.specs.Histories.{entries_of}
 use Rattle.pass_gather.specs.Closing.{IsClosed}
-use Rattle.pass_gather.specs.Gathered.{vars_in, log_in}
-use Rattle.pass_gather.specs.Parting.{open_cell}
 use Rattle.pass_gather.proofs.Parted.{vars_push, entries_push}
 use Rattle.pass_gather.proofs.closing.close_boxes.Goals as goal
 

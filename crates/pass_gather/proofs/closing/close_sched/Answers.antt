@@ -1,4 +1,4 @@
-use Rattle.std.proofs.Common.{◌≡◌, ℕ, ◌+◌, ◌<◌, ◌==◌, List, length, All, count_by, ap, sym, ◌∙◌, subst, arith}
+use Rattle.std.proofs.Common.{ℕ, All, subst, arith}
 use Rattle.compat_scheduler.specs.Settings.{Setting}
 use Rattle.compat_scheduler.specs.Runs.{IsRun}
 use Rattle.round_ledger.specs.Cells as S

@@ -1,4 +1,4 @@
-use Rattle.std.proofs.Common.{◌≡◌, ℕ, ◌+◌, ◌<◌, ◌++◌, List, map, length, All, refl, ap, sym, ◌∙◌, subst, arith}
+use Rattle.std.proofs.Common.{◌≡◌, ℕ, ◌+◌, List, map, length, All, ap, sym, ◌∙◌, subst}
 use Rattle.std.specs.List.{AllZip}
 use Rattle.compat_scheduler.specs.Settings.{Setting}
 use Rattle.compat_scheduler.specs.Runs.{IsRun}
@@ -6,14 +6,13 @@ use Rattle.step_journal.specs.Histories.{entries_of}
 use Rattle.box_lock.specs.Cells.{CellState}
 use Rattle.loose_records.specs.declared.record.BoxEntry.{BoxEntry}
 use Rattle.step_journal.specs.Journals.{NoteState, ShareState, IsPair}
-use Rattle.loose_records.specs.declared.record.PassRecord.{PassRecord}
 use Rattle.loose_records.specs.declared.record.SchedEntry.{SchedEntry}
 use Rattle.loose_records.specs.LooseRecords.{IsLoose}
 use Rattle.round_ledger.specs.Cells as S
 use Rattle.pass_seats.specs.declared.pass.SeatPass.{SeatPass}
-use Rattle.pass_gather.specs.Given.{given_of, notes_of, shares_of, seat_note, pass_note, seat_share, pass_share, Lists}
-use Rattle.pass_gather.specs.Closing.{IsOpenSched, IsReady, ClosesSched}
-use Rattle.pass_gather.specs.Listing.{IsThrough, AreTold, AreNumbered, AreSorted}
+use Rattle.pass_gather.specs.Given.{given_of, notes_of}
+use Rattle.pass_gather.specs.Closing.{IsOpenSched, ClosesSched}
+use Rattle.pass_gather.specs.Listing.{IsThrough, AreTold}
 use Rattle.pass_gather.specs.Gathered.{cell_of, state_in, log_in}
 use Rattle.pass_gather.specs.Made.{SeatsMade}
 use Rattle.pass_gather.proofs.Columns.{boxes_closed}

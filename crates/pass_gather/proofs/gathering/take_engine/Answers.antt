@@ -1,12 +1,10 @@
-use Rattle.std.proofs.Common.{◌≡◌, ℕ, ◌<◌, ◌++◌, ◌∷◌, [], List, map, length, All, refl, ap, sym, ◌∙◌, subst, arith, false}
-use Rattle.std.proofs.Common.{Some, None, sum_by}
+use Rattle.std.proofs.Common.{◌≡◌, ℕ, ◌<◌, map, length, All, ap, sym, ◌∙◌, subst, false}
+use Rattle.std.proofs.Common.{Some, None}
 use Rattle.std.proofs.lemmas.List.{length-map}
 use Rattle.std.proofs.lemmas.List.Elements.{All-push, All-pop, All-weaker}
 use Rattle.quit_word.specs.Seats as Q
-use Rattle.round_ledger.specs.Cells as S
-use Rattle.pass_gather.specs.Closing.{IsReady, IsOpenSched}
 use Rattle.pass_gather.specs.Gathered.{cell_of}
-use Rattle.pass_gather.specs.Parting.{open_cell, view_of, seat_view, seat_parts, seat_amount, parts_in, amount_in}
+use Rattle.pass_gather.specs.Parting.{open_cell, seat_view, seat_parts, seat_amount, parts_in, amount_in}
 use Rattle.pass_gather.proofs.Columns.{boxes_ready}
 use Rattle.pass_gather.proofs.Rows.{all-across, length-across, sum-across}
 use Rattle.pass_gather.proofs.Settled.{unbroken, seats_unmarked, seats_named, desks_named, cells_open}

@@ -1,4 +1,4 @@
-use Rattle.std.proofs.Common.{◌≡◌, ◌<◌, ◌∙◌, length, arith, Some, None, All, sym, ap, subst, List, Option}
+use Rattle.std.proofs.Common.{◌≡◌, ◌<◌, ◌∙◌, length, arith, Some, None, All, sym, ap, subst}
 use Rattle.std.specs.Prelude.{replicate}
 use Rattle.std.proofs.Math.ListN.{length-set}
 use Rattle.std.proofs.lemmas.List.{length-replicate}

@@ -1,9 +1,9 @@
-use Rattle.std.proofs.Common.{◌≡◌, ◌∷◌, ◌++◌, [], List, Option, map, Some, None, All, sym, ap, ◌∙◌, subst, append-nil, arith}
+use Rattle.std.proofs.Common.{◌≡◌, ◌∷◌, ◌++◌, [], List, Option, map, Some, All, sym, ap, ◌∙◌, subst, append-nil, arith}
 use Rattle.std.proofs.Common.{append_assoc}
 use Rattle.std.proofs.lemmas.List.{map-append}
 use Rattle.std.proofs.lemmas.List.Elements.{All-head, All-tail}
 use Rattle.loose_records.specs.declared.record.PassRecord.{PassRecord}
-use Rattle.pass_gather.specs.Listing.{IsFilled, AreSorted}
+use Rattle.pass_gather.specs.Listing.{IsFilled}
 use Rattle.pass_gather.proofs.Lists.{nil_from_length}
 use Rattle.pass_gather.proofs.Slots.{all_filled, slots_sorted}
 use Rattle.pass_gather.proofs.listing.sort_records.Goals as goal

@@ -1,4 +1,4 @@
-use Rattle.std.proofs.Common.{◌≡◌, ◌++◌, List, Option, map, All, Some}
+use Rattle.std.proofs.Common.{◌≡◌, ◌++◌, List, map, All, Some}
 use Rattle.loose_records.specs.declared.record.PassRecord.{PassRecord}
 use Rattle.pass_gather.specs.Listing.{IsFilled, AreSorted}
 use Rattle.pass_gather.proofs.listing.sort_records.Given as goal

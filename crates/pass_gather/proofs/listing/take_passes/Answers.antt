@@ -1,6 +1,4 @@
-use Rattle.std.proofs.Common.{◌≡◌, ◌++◌, ◌∷◌, [], map, List, ap, sym, ◌∙◌, append_assoc, subst}
-use Rattle.std.proofs.lemmas.List.{map-append}
-use Rattle.loose_records.specs.declared.record.PassRecord.{PassRecord}
+use Rattle.std.proofs.Common.{◌++◌, ◌∷◌, [], sym, subst}
 use Rattle.pass_gather.specs.Listing.{AreTold}
 use Rattle.pass_gather.specs.Given.{pass_note, pass_share}
 use Rattle.pass_gather.proofs.Slots.{told_push, after_push}

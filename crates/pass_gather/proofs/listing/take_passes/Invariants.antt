@@ -1,6 +1,6 @@
-use Rattle.std.proofs.Common.{◌≡◌, ◌++◌, map, All}
+use Rattle.std.proofs.Common.{◌≡◌, ◌++◌, map}
 use Rattle.pass_gather.specs.Given.{pass_note, pass_share}
-use Rattle.pass_gather.specs.Listing.{IsThrough, AreTold}
+use Rattle.pass_gather.specs.Listing.{AreTold}
 use Rattle.pass_gather.proofs.listing.take_passes.Given as goal
 
 abbrev pub invariant-loop-pass : goal.invariant-loop-pass

@@ -1,5 +1,4 @@
-use Rattle.std.proofs.Common.{◌≡◌, ◌++◌, ◌∷◌, [], List, length, ap, arith, length-append}
-use Rattle.pass_gather.specs.Parting.{with_place, with_row}
+use Rattle.std.proofs.Common.{◌∷◌, [], length, ap, arith, length-append}
 use Rattle.pass_gather.proofs.Parted.{row_many, row_next}
 use Rattle.pass_gather.proofs.parting.put_row.Goals as goal
 

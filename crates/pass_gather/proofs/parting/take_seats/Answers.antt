@@ -1,5 +1,5 @@
-use Rattle.std.proofs.Common.{◌≡◌, ◌++◌, ◌∷◌, [], map, List, length, All, refl, ap, sym, ◌∙◌, subst, rules}
-use Rattle.pass_gather.specs.Parting.{open_cell, AreApart}
+use Rattle.std.proofs.Common.{map, length, refl, ap, ◌∙◌, rules}
+use Rattle.pass_gather.specs.Parting.{open_cell}
 use Rattle.pass_gather.proofs.Columns.{columns_none}
 use Rattle.pass_gather.proofs.Parted.{apart_push, row_many}
 use Rattle.pass_gather.proofs.parting.take_seats.Goals as goal
