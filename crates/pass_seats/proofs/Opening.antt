@@ -16,7 +16,7 @@ use Rattle.pass_seats.specs.declared.pass.SeatPass.{SeatPass}
 use Rattle.pass_seats.specs.Names.{Names}
 use Rattle.pass_seats.specs.Passes.{log_at}
 use Rattle.pass_seats.specs.Seats.{IsSeat, IsPlace, logs_of, is_done}
-use Rattle.pass_seats.specs.Opening.{ArePlaces}
+use Rattle.pass_seats.specs.Opening.{ArePlaces, PlacesState}
 use Rattle.pass_seats.proofs.Lists.{none_some, read-at, read-past}
 use Rattle.pass_seats.proofs.Placing.{seat_at}
 
@@ -65,3 +65,10 @@ fresh_seat names number places note share quit parts amount passes are many less
         (λ (t : length places ≤ b).
         read-past (logs_of places) b []
         (omega (arith, t, length-map places (λ (q : Place). q.note.seen)))) h
+
+-- the seats before this one have one place more than this, and the others as many
+pub record AreJoined (many count : ℕ) (places : List PlacesState) : Type 0 where
+  pub before : (w : ℕ) (p : PlacesState) → slice_get places w ≡ Some p → w < count →
+      p ≡ record { number = w; many = many + 1 }
+  pub behind : (w : ℕ) (p : PlacesState) → slice_get places w ≡ Some p → count ≤ w →
+      p ≡ record { number = w; many = many }
