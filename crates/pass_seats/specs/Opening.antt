@@ -84,3 +84,8 @@ pub record AreNewBoxes (names : Names) (desks : List BoxDeskState) : Type 0 wher
 -- seats by their numbers, which have seen nothing and were given no pass
 pub record AreNewSeats (seats : List SeatState) : Type 0 where
   pub each : (w : ℕ) (s : SeatState) → slice_get seats w ≡ Some s → IsFresh w s
+
+-- the names of an engine over these tables, with so many seats and this first state, whatever it is set up
+-- with
+abbrev pub AreNamesOf : Names → BlankState → ℕ → State → Type 0
+AreNamesOf names blank seats first = names ≡ names_of blank seats names.setting first

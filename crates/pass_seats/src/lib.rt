@@ -5,6 +5,7 @@
 mod blank;
 mod desks;
 mod item;
+mod making;
 mod names;
 mod parts;
 mod pass;
@@ -14,6 +15,7 @@ mod seat;
 pub use blank::{EngineBlank, FreshBox, FreshSched, SeatPlaces};
 pub use desks::{BoxDesk, SchedDesk, desks_cross};
 pub use item::Item;
+pub use making::Workshop;
 pub use names::EngineNames;
 pub use parts::{PassParts, SeatParts};
 pub use pass::{Done, Pass, Place, Progress, SeatPass};

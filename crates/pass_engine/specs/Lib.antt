@@ -1,0 +1,3 @@
+pub mod Engines
+pub mod Calls
+pub mod Beginnings
