@@ -131,8 +131,8 @@ impl<C: Kept> BoxTurn<C> {
     }
 
     /// Takes the value, where no seat holds it: what it keeps is then known. None comes exactly where this
-    /// call's one compare and exchange found the word at 1, and the seat then counts one miss more; by the
-    /// rule of the table no miss is counted but by such a step. It takes no memory and doesn't wait.
+    /// call's one compare and exchange found the word at 1, and the seat then counts one miss more; of the
+    /// kinds of step no other counts a miss. It takes no memory and doesn't wait.
     pub fn try_take(&self, seat: &mut TurnSeat<C>) -> Option<C>
         requires turn { seat.old.turn ≡ self.now.name }
         requires free { seat.old.holds ≡ false }

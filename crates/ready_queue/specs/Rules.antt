@@ -31,7 +31,7 @@ abbrev pub pushed_in : List Row → List Mark
 pushed_in [] = []
 pushed_in (r ∷ rows) = r.pushed ++ pushed_in rows
 
--- and what was taken under them
+-- what was taken under these rows' numbers
 abbrev pub taken_in : List Row → List Mark
 taken_in [] = []
 taken_in (r ∷ rows) = r.taken ++ taken_in rows
@@ -42,7 +42,7 @@ pushed_by Spent = []
 pushed_by (Seated row) = row.pushed
 pushed_by (First rows given) = pushed_in rows
 
--- and what was taken under them
+-- what was taken under the numbers of a view's rows
 abbrev pub taken_by : View → List Mark
 taken_by Spent = []
 taken_by (Seated row) = row.taken
