@@ -1,5 +1,6 @@
 -- How an engine begins.
-use Rattle.std.proofs.Common.{◌≡◌, ℕ, ◌<◌, ◌≤◌, List, [], ◌∷◌, ◌++◌, sym, ap, ◌∙◌, refl, subst, length, arith, map}
+use Rattle.std.proofs.Common.{◌≡◌, ℕ, ◌<◌, ◌≤◌, List, [], ◌∷◌, ◌++◌, sym, ap, ◌∙◌, refl, subst, length}
+use Rattle.std.proofs.Common.{arith, map}
 use Rattle.std.proofs.Common.{append-nil, All, None, Some, get_or}
 use Rattle.std.specs.Prelude.{slice_get}
 use Rattle.std.specs.List.{range_with_len}
@@ -37,7 +38,8 @@ below_all n =
     below i less = omega (arith, get_or-range_with_len 0 n i 0 less, less)
 
 -- the names of an engine for a checked program
-module _ (p : Program) (running : List Method) (plan : Plan) (rows : Table) (from : State) (rounds budget seats : ℕ)
+module _ (p : Program) (running : List Method) (plan : Plan) (rows : Table) (from : State)
+    (rounds budget seats : ℕ)
     (blank : BlankState) (names : Names) (code : List Method) (first : ℕ → List Value)
     (is : names ≡ names_of blank seats (setting_of p rows rounds budget) from) where
   abbrev made_of : Names
@@ -102,7 +104,8 @@ pub next_fresh : (ys rest all : List SeatState) (x : SeatState) → ys ++ x ∷ 
     (w : ℕ) × IsFresh w x
 next_fresh ys rest all x is are = (
   length ys,
-  are.each (length ys) x (subst (λ (l : List SeatState). slice_get l (length ys) ≡ Some x) is (at-middle ys rest x)),
+  are.each (length ys) x
+      (subst (λ (l : List SeatState). slice_get l (length ys) ≡ Some x) is (at-middle ys rest x)),
 )
 
 -- where nothing is left

@@ -4,3 +4,4 @@ pub mod Starting
 pub mod Stepping
 pub mod Finishing
 pub mod Beginning
+pub mod Seeing

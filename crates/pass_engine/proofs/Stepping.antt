@@ -1,5 +1,6 @@
 -- A step at an engine that nobody has given up.
-use Rattle.std.proofs.Common.{◌≡◌, ℕ, List, sym, ap, ◌∙◌, refl, subst, set, Bool, true, false, Option, Some, None}
+use Rattle.std.proofs.Common.{◌≡◌, ℕ, List, sym, ap, ◌∙◌, refl, subst, set, Bool, true, false, Option, Some}
+use Rattle.std.proofs.Common.{None}
 use Rattle.std.specs.Prelude.{Result, Ok, Err, IfOk, MatchResult, slice_get}
 use Rattle.seuss_program.specs.declared.program.Program.{Program}
 use Rattle.seuss_program.specs.declared.state.Value.{Value}
@@ -29,20 +30,20 @@ module _ (program : Program) (code : List Method) (first : ℕ → List Value) (
   IsStill made = MatchResult made (λ _. ℕ) (IsStillBy cell next)
 
   -- the seat was given just the passes that it has started
-  pub step_worker : (made : Result Progress E.EngineRefusal) → HasStepped made → IsRefused made → IsWorker seat →
-      IsWorker after
+  pub step_worker : (made : Result Progress E.EngineRefusal) → HasStepped made → IsRefused made →
+      IsWorker seat → IsWorker after
   step_worker (Ok progress) stepped refused worker =
       let made = stepped.advanced in
-      passed_worker (set seat.places cell.number made.seen) seat.amount slot made.pass made.after seat after made.at_pass
-      (ap start_of made.steps.after_is) made.new_is worker
+      passed_worker (set seat.places cell.number made.seen) seat.amount slot made.pass made.after seat after
+      made.at_pass (ap start_of made.steps.after_is) made.new_is worker
   step_worker (Err X.Memory) stepped refused worker = torn_worker seat after refused
   step_worker (Err (X.GivenUp by)) stepped refused worker = quit_worker by seat after refused.0 worker
   step_worker (Err (X.Worn stamp)) stepped refused worker =
       placed_worker (set seat.places cell.number refused.1.seen) seat after refused.1.new_is worker
 
   -- the box is whole, unless the seat has given the engine up
-  pub step_unbroken : (number : ℕ) (made : Result Progress E.EngineRefusal) → HasStepped made → IsStill made →
-      cell.broken ≡ false → given_up_after number made ≡ None → next.broken ≡ false
+  pub step_unbroken : (number : ℕ) (made : Result Progress E.EngineRefusal) → HasStepped made →
+      IsStill made → cell.broken ≡ false → given_up_after number made ≡ None → next.broken ≡ false
   step_unbroken number (Ok progress) stepped still whole going = stepped.whole.1
   step_unbroken number (Err X.Memory) stepped still whole going = absurd (none_some number (sym going))
   step_unbroken number (Err (X.GivenUp by)) stepped still whole going =

@@ -1,5 +1,6 @@
 -- A worker's seat was given just the passes that it has started: what keeps it so.
-use Rattle.std.proofs.Common.{◌≡◌, ℕ, ◌+◌, List, [], ◌∷◌, ◌++◌, sym, ap, ◌∙◌, refl, subst, map, true, false, Some}
+use Rattle.std.proofs.Common.{◌≡◌, ℕ, ◌+◌, List, [], ◌∷◌, ◌++◌, sym, ap, ◌∙◌, refl, subst, map, true, false}
+use Rattle.std.proofs.Common.{Some}
 use Rattle.std.specs.Prelude.{slice_get, slice_set}
 use Rattle.std.proofs.lemmas.List.{map-append}
 use Rattle.step_journal.specs.Histories.{Log, own_entries, IsNoteOf}
@@ -44,22 +45,26 @@ started_worker names cell next seat after pass whole made worker =
       passes = seat.passes ++ given ∷ [];
     }) = record { took = λ _. took } in
     subst IsWorker (sym made.taken.new_is)
-    (subst (λ (s : SeatState). IsWorker (record s { passes = s.passes ++ given ∷ [] })) (sym made.issued.new_is) core)
+    (subst (λ (s : SeatState). IsWorker (record s { passes = s.passes ++ given ∷ [] }))
+    (sym made.issued.new_is) core)
 
 -- after a look at the scheduler's whole list
 pub saw_worker : (log : Log SchedEntry) (seat after : SeatState) → IsNoteOf log seat.number seat.note.seen →
     after ≡ sees_sched seat log → IsWorker seat → IsWorker after
 saw_worker log seat after before is worker =
-    let core : IsWorker (sees_sched seat log) = record { took = λ whole. sym before.own ∙ worker.took whole } in
+    let core : IsWorker (sees_sched seat log) =
+    record { took = λ whole. sym before.own ∙ worker.took whole } in
     subst IsWorker (sym is) core
 
 -- after a look at the quit word
-pub quit_worker : (by : ℕ) (seat after : SeatState) → after ≡ sees_quit seat by → IsWorker seat → IsWorker after
+pub quit_worker : (by : ℕ) (seat after : SeatState) → after ≡ sees_quit seat by → IsWorker seat →
+    IsWorker after
 quit_worker by seat after is worker =
     let core : IsWorker (sees_quit seat by) = record { took = worker.took } in subst IsWorker (sym is) core
 
 -- after a look at a box
-pub placed_worker : (places : List Place) (seat after : SeatState) → after ≡ record seat { places = places } →
+pub placed_worker : (places : List Place) (seat after : SeatState) →
+    after ≡ record seat { places = places } →
     IsWorker seat → IsWorker after
 placed_worker places seat after is worker =
     let core : IsWorker (record seat { places = places }) = record { took = worker.took } in
@@ -71,6 +76,10 @@ pub passed_worker : (places : List Place) (amount slot : ℕ) (p q : SeatPass) (
     after ≡ record seat { places = places; amount = amount; passes = slice_set seat.passes slot q } →
     IsWorker seat → IsWorker after
 passed_worker places amount slot p q seat after there same is worker =
-    let core : IsWorker (record seat { places = places; amount = amount; passes = slice_set seat.passes slot q }) =
+    let core : IsWorker (record seat {
+      places = places;
+      amount = amount;
+      passes = slice_set seat.passes slot q;
+    }) =
     record { took = λ whole. worker.took whole ∙ sym (set-map start_of seat.passes slot p q there same) } in
     subst IsWorker (sym is) core

@@ -1,5 +1,6 @@
 -- What the calls of the engine for one thread do.
-use Rattle.std.specs.Prelude.{◌≡◌, ℕ, ◌^◌, ◌⊎◌, List, Result, Ok, Err, Option, Some, None, slice_get, slice_set}
+use Rattle.std.specs.Prelude.{◌≡◌, ℕ, ◌^◌, ◌⊎◌, List, Result, Ok, Err, Option, Some, None, slice_get}
+use Rattle.std.specs.Prelude.{slice_set}
 use Rattle.seuss_program.specs.declared.program.Program.{Program}
 use Rattle.seuss_program.specs.declared.state.Value.{Value}
 use Rattle.method_code.specs.declared.method.Method.{Method}
@@ -39,14 +40,16 @@ pub record GivesUp (old new : EngineState) (seat after : SeatState) : Type 0 whe
 
 -- A start of the next pass, which the seat was given: its entry is the new end of the scheduler's list,
 -- which the seat has then seen, and the pass, in a slot at the seat's end, is at its beginning.
-pub record StartMade (names : Names) (cell next : S.CellState) (seat after : SeatState) (pass : Pass) : Type 0 where
+pub record StartMade (names : Names) (cell next : S.CellState) (seat after : SeatState)
+    (pass : Pass) : Type 0 where
   pub item : ItemState
   pub between : SeatState
   pub issued : Issued cell next seat between item
   pub taken : Taken names between after item pass
 
 -- a start, and nothing but the scheduler and the seat has changed
-pub record Started (names : Names) (old new : EngineState) (seat after : SeatState) (pass : Pass) : Type 0 where
+pub record Started (names : Names) (old new : EngineState) (seat after : SeatState)
+    (pass : Pass) : Type 0 where
   pub made : StartMade names old.sched new.sched seat after pass
   pub engine : ChangesSched old new
 
@@ -65,7 +68,8 @@ pub record IsLost (old new : S.CellState) (seat : SeatState) : Type 0 where
 -- why a start was refused at the scheduler's desk, or its pass at the seat, and what then holds
 abbrev pub StartRefusedBy : S.CellState → S.CellState → SeatState → SeatState → E.EngineRefusal → Type 0
 StartRefusedBy cell next seat after (X.GivenUp by) = IssueRefusedBy cell next seat after (X.GivenUp by)
-StartRefusedBy cell next seat after X.Memory = (SchedBreaks cell next ⊎ IsLost cell next seat) × Tears seat after
+StartRefusedBy cell next seat after X.Memory =
+    (SchedBreaks cell next ⊎ IsLost cell next seat) × Tears seat after
 StartRefusedBy cell next seat after (X.Worn stamp) = IssueRefusedBy cell next seat after (X.Worn stamp)
 
 -- Want of memory in a start: the start was refused by the scheduler's cell, which is broken, or it was
@@ -141,10 +145,10 @@ StepRefused old new seat after slot X.Memory = StepFails old new seat after slot
 StepRefused old new seat after slot (X.Worn stamp) = StepWorn old new seat after slot stamp
 
 -- a finish of the pass in a slot, with this verdict
-pub record FinishMade (old new : EngineState) (seat after : SeatState) (slot : ℕ) (verdict : FinishVerdict) : Type 0
-  where
-    pub finished : Finished old.sched new.sched seat after slot verdict
-    pub engine : ChangesSched old new
+pub record FinishMade (old new : EngineState) (seat after : SeatState) (slot : ℕ)
+    (verdict : FinishVerdict) : Type 0 where
+  pub finished : Finished old.sched new.sched seat after slot verdict
+  pub engine : ChangesSched old new
 
 -- want of memory in a finish: the scheduler's cell is broken, and no box has changed
 pub record FinishFails (old new : EngineState) (seat after : SeatState) : Type 0 where

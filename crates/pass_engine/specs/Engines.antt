@@ -44,15 +44,16 @@ pub record IsEngine (names : Names) (e : EngineState) : Type 0 where
   pub whole : e.given_up ≡ None → IsUnbroken e
 
 -- What an engine runs: the code and the plan of the program that its names are of, from their first state,
--- with the budget and the quit word of these names.
-pub record IsSetUp (names : Names) (code : List Method) (first : ℕ → List Value) (running : List Method) (plan : Plan)
-    (from : State) (budget : ℕ) (quit : TableId) : Type 0 where
+-- with the budget and the quit word of these names. The ledger has a part for each seat.
+pub record IsSetUp (names : Names) (code : List Method) (first : ℕ → List Value) (parts : ℕ)
+    (running : List Method) (plan : Plan) (from : State) (budget : ℕ) (quit : TableId) : Type 0 where
   pub named : AreNames names code first
   pub code_is : running ≡ code
   pub made : AreMadeFrom names.setting.program running plan
   pub from_is : from ≡ names.first
   pub budget_is : budget ≡ names.setting.budget
   pub quit_is : quit ≡ names.quit
+  pub parts_is : parts ≡ names.seats
 
 -- somebody gave the engine up
 abbrev pub IsGivenUp : EngineState → Type 0

@@ -1,3 +1,4 @@
 pub mod Engines
 pub mod Calls
 pub mod Beginnings
+pub mod Gathering

@@ -8,7 +8,8 @@ ghost use Rattle.pass_seats.specs.Steps.{IsOpen};
 ghost use Rattle.pass_seats.specs.Finishes.{IsOver};
 ghost use Rattle.pass_engine.specs.Engines.{IsSeatOf, StaysGivenUp};
 ghost use Rattle.pass_engine.specs.Calls.{Started, StartMade, NoneStarted, StartRefused, StartRefusedBy};
-ghost use Rattle.pass_engine.specs.Calls.{StepMade, StepRefused, FinishMade, FinishRefused, StandingTold, StandingRefused};
+ghost use Rattle.pass_engine.specs.Calls.{StepMade, StepRefused, FinishMade, FinishRefused, StandingTold};
+ghost use Rattle.pass_engine.specs.Calls.{StandingRefused};
 ghost use Rattle.pass_engine.specs.Calls.{first_to, given_up_after};
 
 use crate::{StillEngine, WorkerSeat};
@@ -59,9 +60,11 @@ impl<'a, N: EngineNames> StillEngine<'a, N> {
         requires going { self.old.given_up ≡ None }
         requires of { IsSeatOf self.old seat.old }
         requires open { (b : ℕ) × IsOpen seat.old slot b }
-        ensures made { IfOk result (λ progress. StepMade N.names.setting.program N.code N.first self.old self.new
+        ensures made { IfOk result
+            (λ progress. StepMade N.names.setting.program N.code N.first self.old self.new
             seat.old seat.new slot progress) }
-        ensures refused { MatchResult result (λ _. ℕ) (StepRefused self.old self.new seat.old seat.new slot) }
+        ensures refused { MatchResult result (λ _. ℕ)
+            (StepRefused self.old self.new seat.old seat.new slot) }
         ensures seat { IsSeatOf self.new seat.new }
         ensures others { StaysGivenUp self.old self.new }
     {
@@ -90,7 +93,8 @@ impl<'a, N: EngineNames> StillEngine<'a, N> {
         requires of { IsSeatOf self.old seat.old }
         requires over { IsOver seat.old slot }
         ensures made { IfOk result (λ verdict. FinishMade self.old self.new seat.old seat.new slot verdict) }
-        ensures refused { MatchResult result (λ _. ℕ) (FinishRefused self.old self.new seat.old seat.new slot) }
+        ensures refused { MatchResult result (λ _. ℕ)
+            (FinishRefused self.old self.new seat.old seat.new slot) }
         ensures seat { IsSeatOf self.new seat.new }
         ensures others { StaysGivenUp self.old self.new }
     {

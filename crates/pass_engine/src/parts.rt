@@ -27,6 +27,7 @@ impl<'a, N: EngineNames> StillEngine<'a, N> {
         ensures quit { result.quit ≡ N.names.quit }
         ensures kept { IsEngine N.names self.entry }
         ensures named { AreNames N.names N.code N.first }
+        ensures parts { N.parts ≡ N.names.seats }
     {
         let StillEngine {
             code: _,

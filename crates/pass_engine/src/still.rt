@@ -51,7 +51,7 @@ impl<'a, N: EngineNames> Model for StillEngine<'a, N> {
     ghost view = { λ e. engine_of e.boxes.items e.sched e.given_up };
 
     ghost invariant = { λ e.
-        IsSetUp N.names N.code N.first e.code.now e.plan.now e.first e.budget e.quit
+        IsSetUp N.names N.code N.first N.parts e.code.now e.plan.now e.first e.budget e.quit
         × IsEngine N.names (engine_of e.boxes.items e.sched e.given_up) };
 }
 
@@ -159,7 +159,8 @@ impl<'a, N: EngineNames> StillEngine<'a, N> {
     ) -> Result<Progress, EngineRefusal>
         requires of { IsSeatOf self.old seat.old }
         requires open { (b : ℕ) × IsOpen seat.old pass.old.slot b }
-        ensures made { IfOk result (λ progress. StepMade N.names.setting.program N.code N.first self.old self.new
+        ensures made { IfOk result
+            (λ progress. StepMade N.names.setting.program N.code N.first self.old self.new
             seat.old seat.new pass.old.slot progress) }
         ensures pass { pass.new ≡ pass.old }
         ensures refused { MatchResult result (λ _. ℕ)
@@ -183,7 +184,8 @@ impl<'a, N: EngineNames> StillEngine<'a, N> {
     ) -> Result<FinishVerdict, EngineRefusal>
         requires of { IsSeatOf self.old seat.old }
         requires over { IsOver seat.old pass.slot }
-        ensures made { IfOk result (λ verdict. FinishMade self.old self.new seat.old seat.new pass.slot verdict) }
+        ensures made { IfOk result
+            (λ verdict. FinishMade self.old self.new seat.old seat.new pass.slot verdict) }
         ensures refused { MatchResult result (λ _. ℕ)
             (FinishRefused self.old self.new seat.old seat.new pass.slot) }
         ensures seat { IsSeatOf self.new seat.new }

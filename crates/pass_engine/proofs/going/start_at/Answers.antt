@@ -9,7 +9,8 @@ use Rattle.pass_engine.proofs.going.start_at.Goals as goal
 pub returns-in_err-issued-clause-refused : goal.returns-in_err-issued-clause-refused
 returns-in_err-issued-clause-refused g c =
     let refusal = c.in_err-issued.field-0.0 in
-    let h : StartRefusedBy c.args.desk.now.cell c.issue.new.self.cell c.args.seat.now c.issue.new.seat refusal =
+    let h : StartRefusedBy c.args.desk.now.cell c.issue.new.self.cell c.args.seat.now c.issue.new.seat
+    refusal =
     issue_refused c.args.desk.now.cell c.issue.new.self.cell c.args.seat.now c.issue.new.seat refusal
     c.in_err-issued.ensures.refused in
     search rules

@@ -1,4 +1,5 @@
-use Rattle.std.proofs.Common.{◌≡◌, ℕ, List, [], ◌∷◌, ◌++◌, length, ap, sym, ◌∙◌, refl, subst, arith, append_assoc}
+use Rattle.std.proofs.Common.{◌≡◌, ℕ, List, [], ◌∷◌, ◌++◌, length, ap, sym, ◌∙◌, refl, subst, arith}
+use Rattle.std.proofs.Common.{append_assoc}
 use Rattle.std.specs.Vec.Iter.{into_iter_items}
 use Rattle.pass_seats.specs.Seats.{SeatState}
 use Rattle.pass_engine.proofs.Beginning.{next_fresh, none_left}
@@ -23,7 +24,8 @@ loop-core-preserved g c =
     record {
       rest = append_assoc ys (x ∷ []) rest ∙ all;
       count = omega (arith, i.count, ap length c.in-Some.ensures.steps.0, c.in-Some.ensures.steps.1);
-      seats = c.in_ok-push.ensures.ok ∙ ap (λ (s : SeatState). c.loop-core.seats ++ s ∷ []) c.seat_over.ensures
+      seats = c.in_ok-push.ensures.ok
+          ∙ ap (λ (s : SeatState). c.loop-core.seats ++ s ∷ []) c.seat_over.ensures
           ∙ ap (λ (l : List SeatState). l ++ x ∷ []) i.seats;
     }
 
@@ -31,4 +33,5 @@ pub returns : goal.returns
 returns g c =
     let i = c.loop-core.invariant in
     let rest = into_iter_items c.loop-core.core-iterator in
-    i.seats ∙ none_left c.loop-core.yielded rest c.args.cores.items i.rest (sym i.count ∙ c.in-None.ensures.steps.0)
+    i.seats ∙ none_left c.loop-core.yielded rest c.args.cores.items i.rest
+    (sym i.count ∙ c.in-None.ensures.steps.0)

@@ -17,8 +17,8 @@ open-requires-clause-named g c =
     let a = c.args in
     let r = c.requires in
     are_names a.program.now a.code.now a.plan.now a.rows a.state a.rounds a.budget a.seats a.blank
-    g.N.EngineNames.names g.N.CellNames.code g.N.CellNames.first r.names r.keeps r.made r.form r.small r.code r.first
-    r.tables
+    g.N.EngineNames.names g.N.CellNames.code g.N.CellNames.first r.names r.keeps r.made r.form r.small
+    r.code r.first r.tables
 
 pub open-requires-clause-names : goal.open-requires-clause-names
 open-requires-clause-names g c =
@@ -40,8 +40,9 @@ invariant_of-engine g c =
     let names = g.N.EngineNames.names in
     let shop = c.in_ok-shop.shop in
     let e = c.in_ok-shop.ensures in
-    let named = are_names a.program.now a.code.now a.plan.now a.rows a.state a.rounds a.budget a.seats a.blank
-    names g.N.CellNames.code g.N.CellNames.first r.names r.keeps r.made r.form r.small r.code r.first r.tables in
+    let named = are_names a.program.now a.code.now a.plan.now a.rows a.state a.rounds a.budget a.seats
+    a.blank names g.N.CellNames.code g.N.CellNames.first r.names r.keeps r.made r.form r.small r.code r.first
+    r.tables in
     let made : AreMadeFrom names.setting.program a.code.now a.plan.now =
     subst (λ (p : Program). AreMadeFrom p a.code.now a.plan.now)
     (sym (ap (λ (n : Names). n.setting.program) r.names)) r.made in (
@@ -52,9 +53,11 @@ invariant_of-engine g c =
         from_is = sym (ap (λ (n : Names). n.first) r.names);
         budget_is = sym (ap (λ (n : Names). n.setting.budget) r.names);
         quit_is = e.quit;
+        parts_is = sym r.ledger.1 ∙ r.ledger.2 ∙ sym (ap (λ (n : Names). n.seats) r.names);
       },
       new_keeps names (engine_of shop.boxes.items shop.sched None)
-          (new_engine names shop.boxes.items shop.sched a.seats e.many e.boxes e.sched (ap (λ (n : Names). n.seats) r.names)),
+          (new_engine names shop.boxes.items shop.sched a.seats e.many e.boxes e.sched
+          (ap (λ (n : Names). n.seats) r.names)),
     )
 
 pub returns-clause-engine : goal.returns-clause-engine
@@ -67,7 +70,8 @@ returns-clause-engine g c =
 pub returns-clause-seats : goal.returns-clause-seats
 returns-clause-seats g c =
     let e = c.in_ok-shop.ensures in
-    let fresh : AreNewWorkers c.args.seats c.in_ok-shop.shop.seats.items = record { all = e.all; each = e.seats.each } in
+    let fresh : AreNewWorkers c.args.seats c.in_ok-shop.shop.seats.items =
+    record { all = e.all; each = e.seats.each } in
     subst (λ (l : List SeatState). AreNewWorkers c.args.seats l) (sym c.in_ok-workers.ensures) fresh
 
 pub returns-clause-of : goal.returns-clause-of
