@@ -11,7 +11,8 @@ use Rattle.pass_seats.specs.Seats.{SeatState}
 use Rattle.pass_seats.specs.Opening.{fresh_cell, fresh_sched, IsFresh}
 use Rattle.pass_engine.specs.Engines.{EngineState}
 
--- a program, its scheduler with one slot for each action, these levels and rounds, and the budget of each pass
+-- a program, its scheduler with one slot for each action, these levels and rounds, and the budget of each
+-- pass
 abbrev pub setting_of : Program → Table → ℕ → ℕ → RunSetting
 setting_of p levels rounds budget = record {
   program = p;
@@ -23,8 +24,8 @@ setting_of p levels rounds budget = record {
 abbrev pub cell_at : Names → ℕ → B.CellState
 cell_at names b = fresh_cell (table_at names b) b (vars_of names.first b) names.seats
 
--- An engine at its beginning: the boxes of these names with their first variables, and the scheduler, all without
--- entries, and nobody has given it up.
+-- An engine at its beginning: the boxes of these names with their first variables, and the scheduler, all
+-- without entries, and nobody has given it up.
 pub record IsNewEngine (names : Names) (e : EngineState) : Type 0 where
   pub many : length e.boxes ≡ length names.boxes
   pub boxes : (b : ℕ) (cell : B.CellState) → slice_get e.boxes b ≡ Some cell → cell ≡ cell_at names b

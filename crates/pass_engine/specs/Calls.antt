@@ -37,8 +37,8 @@ pub record GivesUp (old new : EngineState) (seat after : SeatState) : Type 0 whe
   pub given_up : new.given_up ≡ Some seat.number
   pub tears : Tears seat after
 
--- A start of the next pass, which the seat was given: its entry is the new end of the scheduler's list, which the seat
--- has then seen, and the pass, in a slot at the seat's end, is at its beginning.
+-- A start of the next pass, which the seat was given: its entry is the new end of the scheduler's list,
+-- which the seat has then seen, and the pass, in a slot at the seat's end, is at its beginning.
 pub record StartMade (names : Names) (cell next : S.CellState) (seat after : SeatState) (pass : Pass) : Type 0 where
   pub item : ItemState
   pub between : SeatState
@@ -68,14 +68,15 @@ StartRefusedBy cell next seat after (X.GivenUp by) = IssueRefusedBy cell next se
 StartRefusedBy cell next seat after X.Memory = (SchedBreaks cell next ⊎ IsLost cell next seat) × Tears seat after
 StartRefusedBy cell next seat after (X.Worn stamp) = IssueRefusedBy cell next seat after (X.Worn stamp)
 
--- Want of memory in a start: the start was refused by the scheduler's cell, which is broken, or it was made, and the
--- pass is lost. No box has changed.
+-- Want of memory in a start: the start was refused by the scheduler's cell, which is broken, or it was
+-- made, and the pass is lost. No box has changed.
 pub record StartFails (old new : EngineState) (seat after : SeatState) : Type 0 where
   pub gives_up : GivesUp old new seat after
   pub sched : SchedBreaks old.sched new.sched ⊎ IsLost old.sched new.sched seat
   pub new_is : new ≡ record old { sched = new.sched; given_up = Some seat.number }
 
--- the stamp of the start would be 2^63; the seat has seen the scheduler's whole list, and nothing else has changed
+-- the stamp of the start would be 2^63; the seat has seen the scheduler's whole list, and nothing else has
+-- changed
 pub record StartWorn (old new : EngineState) (seat after : SeatState) (stamp : ℕ) : Type 0 where
   pub going : old.given_up ≡ None
   pub worn : (stamp ≡ 2 ^ 63) × (stamp ≡ S.next_stamp 0 old.sched.journal.log)
@@ -100,9 +101,9 @@ pub record ChangesBox (old new : EngineState) (b : ℕ) (after : B.CellState) : 
   pub going : old.given_up ≡ None
   pub new_is : new ≡ record old { boxes = slice_set old.boxes b after }
 
--- A step of the pass in a slot, on the box at which it is: the seat's list of that box was a beginning of the box's
--- history, and is then the whole of it, with the step's entry, the seat's own, at the end. No other cell, list or pass
--- has changed.
+-- A step of the pass in a slot, on the box at which it is: the seat's list of that box was a beginning of
+-- the box's history, and is then the whole of it, with the step's entry, the seat's own, at the end. No
+-- other cell, list or pass has changed.
 pub record StepMade (program : Program) (code : List Method) (first : ℕ → List Value) (old new : EngineState)
     (seat after : SeatState) (slot : ℕ) (progress : Progress) : Type 0 where
   pub b : ℕ
@@ -122,7 +123,8 @@ pub record StepFails (old new : EngineState) (seat after : SeatState) (slot : �
   pub box : IsSameBox cell left
   pub new_is : new ≡ record old { boxes = slice_set old.boxes b left; given_up = Some seat.number }
 
--- the stamp of the step would be 2^63; the seat has seen the whole history of the box, and nothing else has changed
+-- the stamp of the step would be 2^63; the seat has seen the whole history of the box, and nothing else has
+-- changed
 pub record StepWorn (old new : EngineState) (seat after : SeatState) (slot stamp : ℕ) : Type 0 where
   pub going : old.given_up ≡ None
   pub b : ℕ
@@ -162,8 +164,8 @@ FinishRefused old new seat after slot (X.GivenUp by) = WasGivenUp old new seat a
 FinishRefused old new seat after slot X.Memory = FinishFails old new seat after
 FinishRefused old new seat after slot (X.Worn stamp) = FinishIsWorn old new seat after slot stamp
 
--- nobody gave the engine up; the seat has then seen the scheduler's whole list, and the answer is that of the machine at
--- its end
+-- nobody gave the engine up; the seat has then seen the scheduler's whole list, and the answer is that of
+-- the machine at its end
 pub record StandingTold (e : EngineState) (seat after : SeatState) (answer : Standing) : Type 0 where
   pub going : e.given_up ≡ None
   pub stands : Stands e.sched seat after answer
@@ -187,7 +189,8 @@ pub record GaveUp (old new : EngineState) (seat after : SeatState) : Type 0 wher
   pub places : after.places ≡ seat.places
   pub note : after.note ≡ seat.note
 
--- which seat has given the engine up after a call with it, where nobody had before: this one, where memory was refused
+-- which seat has given the engine up after a call with it, where nobody had before: this one, where memory
+-- was refused
 abbrev pub given_up_after : {T : Type 0} → ℕ → Result T E.EngineRefusal → Option ℕ
 given_up_after seat (Ok answer) = None
 given_up_after seat (Err X.Memory) = Some seat

@@ -6,9 +6,9 @@ ghost use Rattle.pass_seats.specs.Names.{AreNames};
 ghost use Rattle.pass_seats.specs.Starts.{NoneIssued};
 ghost use Rattle.pass_seats.specs.Steps.{IsOpen};
 ghost use Rattle.pass_seats.specs.Finishes.{IsOver};
-ghost use Rattle.pass_engine.specs.Engines.{IsSeatOf};
+ghost use Rattle.pass_engine.specs.Engines.{IsSeatOf, StaysGivenUp};
 ghost use Rattle.pass_engine.specs.Calls.{Started, StartMade, NoneStarted, StartRefused, StartRefusedBy};
-ghost use Rattle.pass_engine.specs.Calls.{StepMade, StepRefused, FinishMade, FinishRefused};
+ghost use Rattle.pass_engine.specs.Calls.{StepMade, StepRefused, FinishMade, FinishRefused, StandingTold, StandingRefused};
 ghost use Rattle.pass_engine.specs.Calls.{first_to, given_up_after};
 
 use crate::{StillEngine, WorkerSeat};
@@ -16,6 +16,7 @@ use compat_scheduler::FinishVerdict;
 use method_code::{Code, Plan};
 use pass_seats::{EngineNames, EngineRefusal, Pass, Progress, SchedDesk, SeatCore};
 use quit_word::QuitWord;
+use round_ledger::Standing;
 use std::alloc::Global;
 
 impl<'a, N: EngineNames> StillEngine<'a, N> {
@@ -32,6 +33,7 @@ impl<'a, N: EngineNames> StillEngine<'a, N> {
             (λ r. MatchOption r (NoneStarted self.old self.new seat.old seat.new) (λ _. ℕ)) }
         ensures refused { MatchResult result (λ _. ℕ) (StartRefused self.old self.new seat.old seat.new) }
         ensures seat { IsSeatOf self.new seat.new }
+        ensures others { StaysGivenUp self.old self.new }
     {
         let number = seat.core.number();
         let made = start_at(
@@ -61,6 +63,7 @@ impl<'a, N: EngineNames> StillEngine<'a, N> {
             seat.old seat.new slot progress) }
         ensures refused { MatchResult result (λ _. ℕ) (StepRefused self.old self.new seat.old seat.new slot) }
         ensures seat { IsSeatOf self.new seat.new }
+        ensures others { StaysGivenUp self.old self.new }
     {
         let number = seat.core.number();
         let b = seat.core.box_of(slot);
@@ -89,11 +92,27 @@ impl<'a, N: EngineNames> StillEngine<'a, N> {
         ensures made { IfOk result (λ verdict. FinishMade self.old self.new seat.old seat.new slot verdict) }
         ensures refused { MatchResult result (λ _. ℕ) (FinishRefused self.old self.new seat.old seat.new slot) }
         ensures seat { IsSeatOf self.new seat.new }
+        ensures others { StaysGivenUp self.old self.new }
     {
         let number = seat.core.number();
         let made = self.sched.finish(&self.quit, &mut seat.core, slot);
         self.given_up = given_up_by(number, &made);
         made
+    }
+
+    /// Whether the run of an engine goes on that nobody has given up.
+    pub(crate) fn standing_going(
+        &mut self,
+        seat: &mut WorkerSeat<N>,
+    ) -> Result<Standing, EngineRefusal>
+        requires going { self.old.given_up ≡ None }
+        requires of { IsSeatOf self.old seat.old }
+        ensures told { IfOk result (λ answer. StandingTold self.old seat.old seat.new answer) }
+        ensures engine { self.new ≡ self.old }
+        ensures refused { MatchResult result (λ _. ℕ) (StandingRefused self.old seat.old seat.new) }
+        ensures seat { IsSeatOf self.new seat.new }
+    {
+        self.sched.standing(&self.quit, &mut seat.core)
     }
 }
 
@@ -119,15 +138,13 @@ fn start_at<N: EngineNames>(
     ensures refused { MatchResult result (λ _. ℕ)
         (StartRefusedBy desk.old.cell desk.new.cell seat.old seat.new) }
 {
-    match desk.issue(quit, seat) {
-        Ok(Some(item)) => {
-            match seat.take(alloc, code, plan, quit, budget, item) {
-                Ok(pass) => Ok(Some(pass)),
-                Err(_) => Err(EngineRefusal::Memory),
-            }
-        }
-        Ok(None) => Ok(None),
-        Err(refusal) => Err(refusal),
+    let issued = desk.issue(quit, seat)?;
+    let Some(item) = issued else {
+        return Ok(None);
+    };
+    match seat.take(alloc, code, plan, quit, budget, item) {
+        Ok(pass) => Ok(Some(pass)),
+        Err(_) => Err(EngineRefusal::Memory),
     }
 }
 

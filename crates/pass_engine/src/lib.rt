@@ -1,4 +1,5 @@
-//! The engine for one thread: seats of workers start, advance and finish passes at its desks, by calls that return.
+//! The engine for one thread: seats of workers start, advance and finish passes at its desks, by calls that
+//! return.
 #![tactic(auto)]
 
 mod going;
@@ -8,5 +9,5 @@ mod still;
 mod worker;
 
 pub use parts::EngineParts;
-pub use still::{StillEngine, engine_crosses};
+pub use still::StillEngine;
 pub use worker::WorkerSeat;

@@ -1,6 +1,7 @@
 //! The engine for one thread, taken apart once its run has ended.
 
 ghost use Rattle.std.specs.Prelude.{◌≡◌};
+ghost use Rattle.pass_seats.specs.Names.{AreNames};
 ghost use Rattle.pass_engine.specs.Engines.{IsEngine, cells_of};
 
 use crate::StillEngine;
@@ -21,10 +22,11 @@ impl<'a, N: EngineNames> StillEngine<'a, N> {
     /// The parts of the engine, with what it has kept of them.
     pub fn apart(self) -> EngineParts<N>
         ensures first { result.first ≡ N.names.first }
-        ensures boxes { cells_of result.boxes.items ≡ self.boxes }
-        ensures sched { result.sched.cell ≡ self.sched }
+        ensures boxes { cells_of result.boxes.items ≡ self.entry.boxes }
+        ensures sched { result.sched.cell ≡ self.entry.sched }
         ensures quit { result.quit ≡ N.names.quit }
-        ensures kept { IsEngine N.names self }
+        ensures kept { IsEngine N.names self.entry }
+        ensures named { AreNames N.names N.code N.first }
     {
         let StillEngine {
             code: _,

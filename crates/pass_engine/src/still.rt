@@ -5,8 +5,9 @@ ghost use Rattle.std.specs.Prelude.{MatchOption, MatchResult};
 ghost use Rattle.seuss_program.specs.Keeping.{HasForm, Keeps};
 ghost use Rattle.seuss_program.specs.Programs.{vars_of};
 ghost use Rattle.method_code.specs.Plans.{AreMadeFrom};
+ghost use Rattle.pass_seats.specs.Names.{AreNames};
 ghost use Rattle.pass_seats.specs.Seats.{SeatState};
-ghost use Rattle.pass_seats.specs.Opening.{names_of, AreNewSeats};
+ghost use Rattle.pass_seats.specs.Opening.{AreNewSeats, IsFresh, names_of};
 ghost use Rattle.pass_seats.specs.Steps.{IsOpen};
 ghost use Rattle.pass_seats.specs.Finishes.{IsOver};
 ghost use Rattle.pass_engine.specs.Engines.{IsEngine, IsSeatOf, StaysGivenUp};
@@ -28,8 +29,8 @@ use seuss_program::{Program, State};
 use std::alloc::Global;
 use std::marker::Model;
 
-/// The engine for one thread: the desks of its boxes and of its scheduler, the quit word, and which seat gave it up
-/// first, if one did. Contracts see its cells.
+/// The engine for one thread: the desks of its boxes and of its scheduler, the quit word, and which seat
+/// gave it up first, if one did. Contracts see its cells.
 #[derive(Drop)]
 pub struct StillEngine<'a, N: EngineNames> {
     pub(crate) code: &'a Code,
@@ -55,9 +56,9 @@ impl<'a, N: EngineNames> Model for StillEngine<'a, N> {
 }
 
 impl<'a, N: EngineNames> StillEngine<'a, N> {
-    /// An engine for a program and its code, over these tables, from this state, with one slot for each action in
-    /// each round, so many rounds, this budget of each pass, and so many seats. Want of memory is all that can be
-    /// refused.
+    /// An engine for a program and its code, over these tables, from this state, with one slot for each
+    /// action in each round, so many rounds, this budget of each pass, and so many seats. Want of memory is
+    /// all that can be refused.
     pub fn new(
         alloc: Global,
         program: &Program,
@@ -109,16 +110,25 @@ impl<'a, N: EngineNames> StillEngine<'a, N> {
         Ok((engine, workers))
     }
 
+    /// Which seat gave the engine up first, if one did.
+    pub fn given_up(&self) -> Option<u32>
+        ensures { result ≡ self.now.given_up }
+    {
+        self.given_up
+    }
+
     /// What the engine keeps.
     pub fn facts(&self)
-        ensures { IsEngine N.names self.now }
+        ensures kept { IsEngine N.names self.now }
+        ensures named { AreNames N.names N.code N.first }
     {
         let _budget = &self.budget;
     }
 
-    /// Starts the next pass and gives it to a seat, which has then seen the scheduler's whole list. None comes where no
-    /// pass can start. `GivenUp` comes where the engine was given up before, `Memory` where memory was refused in this
-    /// call, which gives the engine up, and `Worn` where the stamp of the start would be 2^63.
+    /// Starts the next pass and gives it to a seat, which has then seen the scheduler's whole list. None
+    /// comes where no pass can start. `GivenUp` comes where the engine was given up before, `Memory` where
+    /// memory was refused in this call, which gives the engine up, and `Worn` where the stamp of the start
+    /// would be 2^63.
     pub fn start(
         &mut self,
         alloc: Global,
@@ -132,15 +142,15 @@ impl<'a, N: EngineNames> StillEngine<'a, N> {
         ensures seat { IsSeatOf self.new seat.new }
         ensures others { StaysGivenUp self.old self.new }
     {
-        match self.given_up {
+        match self.given_up() {
             Some(by) => Err(EngineRefusal::GivenUp(by)),
             None => self.start_going(alloc, seat),
         }
     }
 
-    /// Makes one step of a pass of a seat that isn't over, on the box at which it is. `GivenUp` comes where the engine
-    /// was given up before, `Memory` where memory was refused in this call, which gives the engine up, and `Worn`
-    /// where the stamp of the step would be 2^63.
+    /// Makes one step of a pass of a seat that isn't over, on the box at which it is. `GivenUp` comes where
+    /// the engine was given up before, `Memory` where memory was refused in this call, which gives the
+    /// engine up, and `Worn` where the stamp of the step would be 2^63.
     pub fn advance(
         &mut self,
         alloc: Global,
@@ -157,15 +167,15 @@ impl<'a, N: EngineNames> StillEngine<'a, N> {
         ensures seat { IsSeatOf self.new seat.new }
         ensures others { StaysGivenUp self.old self.new }
     {
-        match self.given_up {
+        match self.given_up() {
             Some(by) => Err(EngineRefusal::GivenUp(by)),
             None => self.advance_going(alloc, seat, pass.slot()),
         }
     }
 
-    /// Finishes a pass of a seat that is over, and answers the verdict on it. After a refusal the pass is dropped:
-    /// `GivenUp` comes where the engine was given up before, `Memory` where memory was refused in this call, which
-    /// gives the engine up, and `Worn` where the stamp of the finish would be 2^63.
+    /// Finishes a pass of a seat that is over, and answers the verdict on it. After a refusal the pass is
+    /// dropped: `GivenUp` comes where the engine was given up before, `Memory` where memory was refused in
+    /// this call, which gives the engine up, and `Worn` where the stamp of the finish would be 2^63.
     pub fn finish(
         &mut self,
         seat: &mut WorkerSeat<N>,
@@ -179,14 +189,14 @@ impl<'a, N: EngineNames> StillEngine<'a, N> {
         ensures seat { IsSeatOf self.new seat.new }
         ensures others { StaysGivenUp self.old self.new }
     {
-        match self.given_up {
+        match self.given_up() {
             Some(by) => Err(EngineRefusal::GivenUp(by)),
             None => self.finish_going(seat, pass.slot()),
         }
     }
 
-    /// Whether the run goes on. The seat has then seen the scheduler's whole list. The call takes no memory, and the
-    /// refusal is `GivenUp` alone, where the engine was given up before.
+    /// Whether the run goes on. The seat has then seen the scheduler's whole list. The call takes no
+    /// memory, and the refusal is `GivenUp` alone, where the engine was given up before.
     pub fn standing(&mut self, seat: &mut WorkerSeat<N>) -> Result<Standing, EngineRefusal>
         requires { IsSeatOf self.old seat.old }
         ensures told { IfOk result (λ answer. StandingTold self.old seat.old seat.new answer) }
@@ -194,9 +204,9 @@ impl<'a, N: EngineNames> StillEngine<'a, N> {
         ensures refused { MatchResult result (λ _. ℕ) (StandingRefused self.old seat.old seat.new) }
         ensures seat { IsSeatOf self.new seat.new }
     {
-        match self.given_up {
+        match self.given_up() {
             Some(by) => Err(EngineRefusal::GivenUp(by)),
-            None => self.sched.standing(&self.quit, &mut seat.core),
+            None => self.standing_going(seat),
         }
     }
 
@@ -222,14 +232,15 @@ fn seat_all<N: EngineNames>(
 {
     let mut seats = List::new(alloc);
     for core in cores {
-        seats.push(WorkerSeat { core })?;
+        seats.push(seat_over(core))?;
     }
     Ok(seats)
 }
 
-fn needs_send<T: Send>() {}
-
-/// The engine for one thread may go to another.
-pub fn engine_crosses<'a, N: EngineNames + Send + Sync>() {
-    needs_send::<StillEngine<'a, N>>();
+/// The seat of a worker over a core that was given no pass.
+fn seat_over<N: EngineNames>(core: SeatCore<N>) -> WorkerSeat<N>
+    requires { (w : ℕ) × IsFresh w core }
+    ensures { result ≡ core }
+{
+    WorkerSeat { core }
 }

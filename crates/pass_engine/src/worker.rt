@@ -7,8 +7,8 @@ ghost use Rattle.pass_engine.specs.Engines.{IsWorker};
 use pass_seats::{EngineNames, SeatCore};
 use std::marker::Model;
 
-/// The seat of a worker at the engine for one thread. It was given just the passes that it has started, until a call
-/// with it is refused for want of memory, or gives the engine up.
+/// The seat of a worker at the engine for one thread. It was given just the passes that it has started,
+/// until a call with it is refused for want of memory, or gives the engine up.
 #[derive(Drop)]
 pub struct WorkerSeat<N: EngineNames> {
     pub(crate) core: SeatCore<N>,

@@ -85,6 +85,7 @@ pub record AreNewBoxes (names : Names) (desks : List BoxDeskState) : Type 0 wher
 pub record AreNewSeats (seats : List SeatState) : Type 0 where
   pub each : (w : ℕ) (s : SeatState) → slice_get seats w ≡ Some s → IsFresh w s
 
--- the names of an engine over these tables, with so many seats and this first state, whatever it is set up with
+-- the names of an engine over these tables, with so many seats and this first state, whatever it is set up
+-- with
 abbrev pub AreNamesOf : Names → BlankState → ℕ → State → Type 0
 AreNamesOf names blank seats first = names ≡ names_of blank seats names.setting first

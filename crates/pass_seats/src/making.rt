@@ -28,8 +28,8 @@ pub struct Workshop<N: EngineNames> {
 }
 
 impl<N: EngineNames> Workshop<N> {
-    /// The desks and the seats of an engine over these tables, for this scheduler and this first state, with so
-    /// many seats. Want of memory is all that can be refused.
+    /// The desks and the seats of an engine over these tables, for this scheduler and this first state,
+    /// with so many seats. Want of memory is all that can be refused.
     pub fn open(
         alloc: Global,
         core: SchedCore,
@@ -196,8 +196,8 @@ fn open_boxes<N: EngineNames>(
     Ok(desks)
 }
 
-/// All seats, each with its places at all boxes, and with a place, a view and a part of its own at the scheduler,
-/// the quit word and the ledger.
+/// All seats, each with its places at all boxes, and with a place, a view and a part of its own at the
+/// scheduler, the quit word and the ledger.
 fn open_seats<N: EngineNames>(
     alloc: Global,
     places: Vec<SeatPlaces<N>>,

@@ -1,5 +1,5 @@
 use Rattle.std.proofs.Common.{◌≡◌, ◌+◌, ◌++◌, [], length, None}
-use Rattle.std.specs.Vec.Iter.{into_iter_items}
+use Rattle.std.specs.Vec.Iter.{into_iter_items, into_iter_len}
 use Rattle.pass_seats.specs.Opening.{AreNewSeats, fresh_sched}
 use Rattle.pass_seats.proofs.making.open_seats.Given as goal
 
@@ -7,6 +7,7 @@ use Rattle.pass_seats.proofs.making.open_seats.Given as goal
 abbrev pub invariant-loop-place : goal.invariant-loop-place
 invariant-loop-place g l = record {
   rest : l.yielded ++ into_iter_items l.place-iterator ≡ l.fn.places.items;
+  count : into_iter_len l.place-iterator ≡ length (into_iter_items l.place-iterator);
   seats : AreNewSeats l.seats.items;
   many : length l.seats.items ≡ length l.yielded;
   sched : l.sched ≡ fresh_sched g.N.EngineNames.names.sched l.fn.sched.setting (length l.yielded);
