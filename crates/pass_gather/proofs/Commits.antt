@@ -1,11 +1,10 @@
 -- The commit step of a pass that is over, and its last stamp.
-use Rattle.std.proofs.Common.{◌≡◌, ℕ, zero, suc, ◌+◌, ◌<◌, ◌≤◌, ◌⊎◌, inl, inr, Bool, true, false, List, []}
+use Rattle.std.proofs.Common.{◌≡◌, ℕ, zero, suc, ◌<◌, ◌≤◌, ◌⊎◌, inl, inr, Bool, true, false, List, []}
 use Rattle.std.proofs.Common.{◌∷◌}
 use Rattle.std.proofs.Common.{◌++◌, sym, subst, ap, refl, length, slice_get, Option, Some, None, arith, ◌∙◌}
 use Rattle.std.proofs.Common.{map}
 use Rattle.std.proofs.Common.{replicate, get_or}
-use Rattle.std.specs.Prelude.{option_map, max}
-use Rattle.std.specs.List.{filter_map}
+use Rattle.std.specs.Prelude.{option_map}
 use Rattle.std.proofs.lemmas.List.Quantifiers.{all_pairs_push}
 use Rattle.std.proofs.lemmas.Option.{slice_get-map}
 use Rattle.seuss_base.specs.declared.outcome.PassEnd.{PassEnd}
@@ -17,7 +16,7 @@ use Rattle.method_code.specs.declared.frame.End.TheVariants as E
 use Rattle.method_code.specs.declared.activation.Activation.{Activation}
 use Rattle.method_code.specs.Codes.{compiled}
 use Rattle.method_code.specs.Steps.{Stepped}
-use Rattle.method_code.specs.Chains.{begun, Turned, Next, Over, turned}
+use Rattle.method_code.specs.Chains.{begun, Next, Over, turned}
 use Rattle.method_code.specs.Kinds.{Kind, Early, Commit, Late, kind_by, kind_of, is_late, calls_early}
 use Rattle.method_code.specs.Kinds.{IsAction, steps_made, pass_end, kinds_of, IsInOrder}
 use Rattle.method_code.specs.Records.{Recorded, does, ChainsTo, AreMade, made_of}

@@ -19,7 +19,6 @@ use Rattle.loose_records.specs.declared.record.SchedEntry.{SchedEntry}
 use Rattle.loose_records.specs.declared.record.SchedEntry.TheVariants.{Start, Finish}
 use Rattle.loose_records.specs.Entries.{event_of}
 use Rattle.round_ledger.specs.Cells.{IsOwned, IsOpenOrOver, log_events}
-use Rattle.pass_seats.specs.declared.pass.SeatPass.{SeatPass}
 use Rattle.pass_seats.specs.Desks.{finish_of, finishes_in}
 use Rattle.pass_seats.specs.Seats.{SeatState, is_done, start_of}
 use Rattle.pass_gather.specs.Given.{given_of, TookItsOwn, AllFinished}
@@ -87,6 +86,20 @@ hits_above n (suc k) m more =
     one true is = absurd (grind (arith, nat_tests))
     one false is = ap bit is
 
+-- a maker among them is one of them
+hits_one : (n k m : ℕ) → n ≤ m → m < n + k → hits n k m ≡ 1
+hits_one n zero m more less = absurd (omega (arith, more, less))
+hits_one n (suc k) m more less =
+    one (m == n) refl (λ apart. hits_one (n + 1) k m (omega (arith, more, apart)) (omega (arith, less)))
+  where
+    one : (b : Bool) → (m == n) ≡ b → (m ≢ n → hits (n + 1) k m ≡ 1) → bit (m == n) + hits (n + 1) k m ≡ 1
+    one true is rest =
+        let m_is : m ≡ n = grind (arith, nat_tests) in
+        omega (arith, ap bit is, hits_below (n + 1) k m (omega (arith, m_is)))
+    one false is rest =
+        let apart : m ≢ n = grind (arith, nat_tests) in
+        omega (arith, ap bit is, rest apart)
+
 -- where there are no entries makers have none
 own_sum_nil : (E : Type 0) (n k : ℕ) → own_sum {E = E} n k [] ≡ 0
 own_sum_nil E n zero = refl
@@ -123,6 +136,19 @@ module _ {E : Type 0} where
         own_sum_le f n k log (All-tail (λ (q : ℕ × E). hits n k q.0 ≤ f q) p log each),
       )
 
+  -- makers have as many entries as a weight that gives each of theirs 1 and all others 0
+  own_sum_is : (f : ℕ × E → ℕ) (n k : ℕ) (log : Log E) → All (λ p. hits n k p.0 ≡ f p) log →
+      own_sum n k log ≡ sum_by f log
+  own_sum_is f n k [] each = let z : sum_by f [] ≡ 0 = refl in omega (arith, own_sum_nil E n k, z)
+  own_sum_is f n k (p ∷ log) each =
+      omega (
+        arith,
+        own_sum_cons n k p log,
+        sum_by-cons f p log,
+        All-head (λ (q : ℕ × E). hits n k q.0 ≡ f q) p log each,
+        own_sum_is f n k log (All-tail (λ (q : ℕ × E). hits n k q.0 ≡ f q) p log each),
+      )
+
   -- where each has some, there are as many as makers
   own_sum_some : (n k : ℕ) (log : Log E) → ((i : ℕ) → i < k → own_entries (n + i) log ≢ []) →
       k ≤ own_sum n k log
@@ -156,9 +182,9 @@ starts_counted ((m, Start t stamp) ∷ log) =
 starts_counted ((m, Finish t end verdict stamp) ∷ log) =
     omega (arith, sum_by-cons start_in (m, Finish t end verdict stamp) log, starts_counted log)
 
--- workers make starts alone
-worker_hits : (seats : ℕ) (p : ℕ × SchedEntry) → IsOwned seats p → hits 0 seats p.0 ≤ start_in p
-worker_hits seats (m, Start t stamp) owned = hits_few 0 seats m
+-- workers make starts alone, and each start is made by one of them
+worker_hits : (seats : ℕ) (p : ℕ × SchedEntry) → IsOwned seats p → hits 0 seats p.0 ≡ start_in p
+worker_hits seats (m, Start t stamp) owned = hits_one 0 seats m (omega arith) (omega (arith, owned))
 worker_hits seats (m, Finish t end verdict stamp) owned =
     omega (arith, hits_above 0 seats m (omega (arith, owned)))
 
@@ -223,16 +249,18 @@ module _ (seats : ℕ) (setting : Setting) (machine : Machine) (sched : Log Sche
             pass_hits seats machine.starts (slice_index_or sched k d) (owners k d less)),
       )
 
-  -- workers made no more starts than there are
-  starts_few : own_sum 0 seats sched ≤ machine.starts
-  starts_few =
-      omega (
-        arith,
-        own_sum_le start_in 0 seats sched (λ k d less.
-            worker_hits seats (slice_index_or sched k d) (owners k d less)),
-        starts_counted sched,
-        started_many (started (log_events sched)) machine.starts numbers,
-      )
+-- workers made as many starts as there are
+starts_made : (seats : ℕ) (machine : Machine) (sched : Log SchedEntry) → All (IsOwned seats) sched →
+    map (λ (t : Ticket). t.pass) (started (log_events sched)) ≡ range_with_len 0 machine.starts →
+    own_sum 0 seats sched ≡ machine.starts
+starts_made seats machine sched owners numbers =
+    omega (
+      arith,
+      own_sum_is start_in 0 seats sched (λ k d less.
+          worker_hits seats (slice_index_or sched k d) (owners k d less)),
+      starts_counted sched,
+      started_many (started (log_events sched)) machine.starts numbers,
+    )
 
 -- the passes that seats from number n on were given, by their starts
 given_sum : (n : ℕ) (sched : Log SchedEntry) (seats : List SeatState) →
@@ -299,24 +327,26 @@ all_pass p [] all i x at = absurd (none_some x at)
 all_pass p (y ∷ ys) all zero x at = ap p (sym (some_same y x at)) ∙ (all_first p y ys all).0
 all_pass p (y ∷ ys) all (suc i) x at = all_pass p ys (all_first p y ys all).1 i x at
 
--- so no given pass is open
-pub none_open : (setting : Setting) (machine : Machine) (sched : Log SchedEntry) (seats : List SeatState) →
+-- where each seat was given the passes that it has started, all started ones were given
+pub all_given : (machine : Machine) (sched : Log SchedEntry) (seats : List SeatState) →
     All (IsOwned (length seats)) sched →
-    All (λ p. IsOpenOrOver setting machine (length seats) sched p.1) sched →
     map (λ (t : Ticket). t.pass) (started (log_events sched)) ≡ range_with_len 0 machine.starts →
-    running_count machine ≡ 0 →
     ((w : ℕ) (s : SeatState) → slice_get seats w ≡ Some s → (s.number ≡ w) × TookItsOwn sched s) →
-    sum_by (λ s. count_by is_done s.passes) seats ≡ finishes_in sched →
-    AllFinished machine.starts (given_of seats)
-none_open setting machine sched seats owners tickets numbers quiet took ledger =
-    let more = starts_finished (length seats) setting machine sched owners tickets numbers quiet in
-    let few = starts_few (length seats) setting machine sched owners tickets numbers quiet in
-    let given = given_sum 0 sched seats (λ w s at.
+    length (given_of seats) ≡ machine.starts
+all_given machine sched seats owners numbers took =
+    given_sum 0 sched seats (λ w s at.
     let z : 0 + w ≡ s.number = omega (arith, (took w s at).0) in
-    ap (λ m. own_entries m sched) z ∙ (took w s at).1) in
+    ap (λ m. own_entries m sched) z ∙ (took w s at).1)
+    ∙ starts_made (length seats) machine sched owners numbers
+
+-- so no given pass is open
+pub none_open : (setting : Setting) (machine : Machine) (sched : Log SchedEntry) (seats : List SeatState)
+    (count : ℕ) → All (IsOwned count) sched →
+    All (λ p. IsOpenOrOver setting machine count sched p.1) sched →
+    map (λ (t : Ticket). t.pass) (started (log_events sched)) ≡ range_with_len 0 machine.starts →
+    running_count machine ≡ 0 → length (given_of seats) ≡ machine.starts →
+    sum_by (λ s. count_by is_done s.passes) seats ≡ finishes_in sched → AllFinished (given_of seats)
+none_open setting machine sched seats count owners tickets numbers quiet given ledger =
+    let more = starts_finished count setting machine sched owners tickets numbers quiet in
     let done = done_sum seats in
-    let le = count_by-le-length is_done (given_of seats) in
-    record {
-      many = omega (arith, more, few, given, done, ledger, le);
-      done = all_pass is_done (given_of seats) (omega (arith, more, few, given, done, ledger));
-    }
+    record { done = all_pass is_done (given_of seats) (omega (arith, more, given, done, ledger)) }

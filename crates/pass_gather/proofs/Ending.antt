@@ -1,5 +1,5 @@
 -- What the close of the scheduler promises, with all seats, is what the record needs of it.
-use Rattle.std.proofs.Common.{◌≡◌, ℕ, ◌+◌, ◌<◌, List, map, length, All, sym, arith, Some}
+use Rattle.std.proofs.Common.{◌≡◌, ℕ, ◌+◌, ◌<◌, List, map, length, arith, Some}
 use Rattle.std.specs.Prelude.{slice_get}
 use Rattle.std.specs.List.{range_with_len}
 use Rattle.std.proofs.lemmas.List.Elements.{All-contains}
@@ -14,11 +14,11 @@ use Rattle.pass_seats.specs.declared.pass.SeatPass.{SeatPass}
 use Rattle.pass_seats.specs.Names.{Names}
 use Rattle.pass_seats.specs.Passes.{IsSeatPass}
 use Rattle.pass_seats.specs.Seats.{SeatState, logs_of}
-use Rattle.pass_gather.specs.Given.{given_of, notes_of, seat_note, pass_note, AreSeats, HaveAllNumbers}
+use Rattle.pass_gather.specs.Given.{given_of, notes_of, seat_note, pass_note, AreSeats, HaveAllNumbers, AreBelow}
 use Rattle.pass_gather.specs.Closing.{ClosesSched}
 use Rattle.pass_gather.specs.Gathers.{GathersSched}
 use Rattle.pass_gather.proofs.Lists.{get_front, get_after, get_map, contains_get}
-use Rattle.pass_gather.proofs.Owners.{given_seat, pass_started}
+use Rattle.pass_gather.proofs.Owners.{given_seat, pass_started, whole_at}
 use Rattle.pass_gather.proofs.Apart as A
 
 module _ (names : Names) (cell : CellState) (seats : List SeatState)
@@ -30,7 +30,7 @@ module _ (names : Names) (cell : CellState) (seats : List SeatState)
       (s : SeatState) × IsSeatPass names s.number (logs_of s.places) p
   pass_at j p at =
       let f = given_seat seats j p at in
-      (f.seat, (are.each f.number f.seat f.there).whole.passes f.slot p f.here)
+      (f.seat, (whole_at names f.number f.seat (are.each f.number f.seat f.there)).passes f.slot p f.here)
 
   -- each note has seen a beginning of the journal
   note_of_journal : (k : ℕ) (n : NoteState SchedEntry) → slice_get (notes_of seats) k ≡ Some n →
@@ -80,3 +80,7 @@ module _ (names : Names) (cell : CellState) (seats : List SeatState)
   -- and each number below the starts has a pass
   pub each_has : HaveAllNumbers cell.machine.starts (given_of seats)
   each_has = A.each_number names.seats cell.machine.starts seats closed.each_once workers makers
+
+  -- and the number of each pass is below them
+  pub each_below : AreBelow cell.machine.starts (given_of seats)
+  each_below j p at = (makers j p at).1

@@ -1,53 +1,43 @@
 -- Given passes with their seats, and entries of boxes with the seats that made them.
-use Rattle.std.proofs.Common.{◌≡◌, ◌≢◌, ℕ, zero, suc, ◌+◌, ◌<◌, ◌≤◌, List, [], ◌∷◌, ◌++◌, map, length, All}
-use Rattle.std.proofs.Common.{true}
-use Rattle.std.proofs.Common.{refl, sym, ap, ◌∙◌, subst, ◌⊎◌, inl, inr, arith, Option, Some, None}
-use Rattle.std.specs.Prelude.{slice_get, slice_index_or, Contains, option_map}
-use Rattle.std.specs.List.{filter_map, range_with_len}
+use Rattle.std.proofs.Common.{◌≡◌, ℕ, zero, suc, ◌<◌, ◌≤◌, List, [], ◌∷◌, ◌++◌, map, length}
+use Rattle.std.proofs.Common.{refl, sym, ap, ◌∙◌, subst, ◌⊎◌, inl, inr, arith, Some}
+use Rattle.std.specs.Prelude.{slice_get, slice_index_or, Contains}
+use Rattle.std.specs.List.{range_with_len}
 use Rattle.std.proofs.lemmas.List.{length-map}
 use Rattle.std.proofs.lemmas.List.Elements.{All-contains}
-use Rattle.seuss_base.specs.declared.outcome.PassEnd.{PassEnd}
-use Rattle.seuss_program.specs.declared.program.ActionInfo.{ActionInfo}
 use Rattle.seuss_program.specs.declared.state.State.{State}
 use Rattle.seuss_program.specs.declared.state.Value.{Value}
 use Rattle.seuss_program.specs.Programs.{vars_of}
-use Rattle.method_code.specs.declared.method.Method.{Method}
 use Rattle.method_code.specs.Codes.{compiled}
-use Rattle.method_code.specs.Chains.{begun}
-use Rattle.method_code.specs.Records.{Recorded, ChainsTo, AreMade}
 use Rattle.compat_scheduler.specs.declared.ticket.Ticket.{Ticket}
 use Rattle.compat_scheduler.specs.Machines.{Machine}
 use Rattle.compat_scheduler.specs.Runs.{started}
-use Rattle.step_journal.specs.Histories.{Log, entries_of, own_entries, IsNoteOf, IsPrefix, IsLegal}
+use Rattle.step_journal.specs.Histories.{Log, entries_of, IsNoteOf, IsPrefix}
 use Rattle.loose_records.specs.declared.record.BoxEntry.{BoxEntry}
 use Rattle.loose_records.specs.declared.record.SchedEntry.{SchedEntry}
 use Rattle.loose_records.specs.declared.record.SchedEntry.TheVariants.{Start, Finish}
-use Rattle.loose_records.specs.declared.record.Claim.{Claim}
 use Rattle.loose_records.specs.declared.record.PassRecord.{PassRecord}
-use Rattle.loose_records.specs.declared.record.Record.{Record}
-use Rattle.loose_records.specs.Entries.{gives, step_of, event_of, AreRising, AreStamps, journal, claimed}
-use Rattle.loose_records.specs.Entries.{steps_of as recorded_steps, box_stamps}
-use Rattle.loose_records.specs.LooseRecords.{NamesEntry, IsClaimed as IsRecorded, IsCommitStep, IsPass}
-use Rattle.loose_records.specs.LooseRecords.{IsLoose}
-use Rattle.loose_records.specs.Turns.{clock_of}
+use Rattle.loose_records.specs.Entries.{gives, event_of}
 use Rattle.round_ledger.specs.Cells.{log_events}
 use Rattle.pass_seats.specs.declared.pass.Place.{Place}
-use Rattle.pass_seats.specs.declared.pass.Done.{Done}
 use Rattle.pass_seats.specs.declared.pass.SeatPass.{SeatPass}
-use Rattle.pass_seats.specs.Names.{Names, AreNames}
-use Rattle.pass_seats.specs.Passes.{IsSeatPass, HasDone, ComesTo, CommitsSoFar, log_at, step_at, steps_of}
-use Rattle.pass_seats.specs.Passes.{stamps_of}
-use Rattle.pass_seats.specs.Seats.{SeatState, IsClaimed, logs_of}
-use Rattle.pass_gather.specs.Given.{given_of, AreSeats, IsRecordOf, Tells, Lists}
+use Rattle.pass_seats.specs.Names.{Names}
+use Rattle.pass_seats.specs.Passes.{log_at}
+use Rattle.pass_seats.specs.Seats.{SeatState, IsWhole, logs_of}
+use Rattle.pass_gather.specs.Given.{given_of, AreSeats, IsSeatAt}
 use Rattle.pass_gather.specs.Gathers.{GathersBoxes, GathersSched, record_of}
 use Rattle.pass_gather.specs.Made.{IsOwn, IsMadeOnce, SeatsMade}
 use Rattle.pass_gather.proofs.Lists.{none_some, some_same, less_or, get_front, get_prefix, map_prefix}
 use Rattle.pass_gather.proofs.Lists.{get_map}
-use Rattle.pass_gather.proofs.Lists.{get_unmap, get_or_get, get_below, get_there, get_past, filter_map_same}
-use Rattle.pass_gather.proofs.Lists.{same_list, get_contains, contains_get, contains_prefix}
-use Rattle.pass_gather.proofs.Owns.{own_within, entry_get, own_first}
-use Rattle.pass_gather.proofs.Counting.{numbered_at, started_many}
-use Rattle.pass_gather.proofs.Commits.{PassLaws, legal_at, commits, rises_to}
+use Rattle.pass_gather.proofs.Lists.{get_unmap, get_or_get, get_below, get_there, get_past}
+use Rattle.pass_gather.proofs.Lists.{get_contains, contains_get, contains_prefix}
+use Rattle.pass_gather.proofs.Owns.{own_within, entry_get}
+use Rattle.pass_gather.proofs.Counting.{numbered_at}
+use Rattle.pass_gather.proofs.Commits.{legal_at}
+
+-- what a seat keeps of its passes, no call with which was refused for want of memory
+pub whole_at : (names : Names) (number : ℕ) (s : SeatState) → IsSeatAt names number s → IsWhole names s
+whole_at names number s is = is.seat.whole is.untorn
 
 -- a given pass with its seat, and its slot there
 pub record IsGiven (seats : List SeatState) (p : SeatPass) : Type 0 where

@@ -1,14 +1,13 @@
 -- Own entries of a maker: in what it has seen, and where they stand.
-use Rattle.std.proofs.Common.{◌≡◌, ◌≢◌, ℕ, zero, suc, List, [], ◌∷◌, ◌++◌, map, length, filter, Bool, true}
+use Rattle.std.proofs.Common.{◌≡◌, ◌≢◌, ℕ, zero, suc, List, [], ◌∷◌, ◌++◌, length, Bool, true}
 use Rattle.std.proofs.Common.{false}
-use Rattle.std.proofs.Common.{◌==◌, refl, sym, ap, ◌∙◌, subst, ◌⊎◌, inl, inr, ⊎_elim, arith, Some}
+use Rattle.std.proofs.Common.{◌==◌, refl, sym, ap, ◌∙◌, subst, ⊎_elim, arith, Some}
 use Rattle.std.proofs.Common.{length-append}
-use Rattle.std.specs.Prelude.{slice_get, Contains}
+use Rattle.std.specs.Prelude.{slice_get}
 use Rattle.std.proofs.lemmas.Bool.Decides.{nat_tests}
 use Rattle.step_journal.specs.Histories.{Log, entries_of, own_entries, IsNoteOf}
 use Rattle.step_journal.proofs.Owns.{own_entries-append}
 use Rattle.pass_gather.proofs.Lists.{none_some, some_same, nil_from_length, get_map, get_either}
-use Rattle.pass_gather.proofs.Lists.{contains_get}
 
 module _ {E : Type 0} where
   -- an own entry comes first among the own ones

@@ -1,6 +1,6 @@
 -- The parts of an engine make a loose record.
-use Rattle.std.proofs.Common.{◌≡◌, ℕ, suc, ◌+◌, ◌<◌, List, [], ◌∷◌, ◌++◌, map, length}
-use Rattle.std.proofs.Common.{refl, sym, ap, ◌∙◌, subst, arith, Option, Some, None}
+use Rattle.std.proofs.Common.{◌≡◌, ℕ, suc, ◌<◌, List, [], ◌∷◌, map}
+use Rattle.std.proofs.Common.{refl, sym, ap, ◌∙◌, subst, arith, Option, Some}
 use Rattle.std.specs.Prelude.{slice_get, slice_index_or, Contains, option_map}
 use Rattle.std.specs.List.{filter_map, range_with_len}
 use Rattle.std.proofs.lemmas.List.{length-map}
@@ -11,7 +11,7 @@ use Rattle.seuss_program.specs.Programs.{vars_of}
 use Rattle.method_code.specs.declared.method.Method.{Method}
 use Rattle.method_code.specs.Codes.{compiled}
 use Rattle.method_code.specs.Chains.{begun}
-use Rattle.method_code.specs.Records.{Recorded, ChainsTo, AreMade}
+use Rattle.method_code.specs.Records.{ChainsTo, AreMade}
 use Rattle.compat_scheduler.specs.declared.ticket.Ticket.{Ticket}
 use Rattle.compat_scheduler.specs.Machines.{Machine}
 use Rattle.compat_scheduler.specs.Runs.{started}
@@ -22,9 +22,9 @@ use Rattle.loose_records.specs.declared.record.SchedEntry.TheVariants.{Start, Fi
 use Rattle.loose_records.specs.declared.record.Claim.{Claim}
 use Rattle.loose_records.specs.declared.record.PassRecord.{PassRecord}
 use Rattle.loose_records.specs.declared.record.Record.{Record}
-use Rattle.loose_records.specs.Entries.{gives, step_of, AreRising, AreStamps, claimed}
+use Rattle.loose_records.specs.Entries.{gives, step_of, AreStamps, claimed}
 use Rattle.loose_records.specs.Entries.{steps_of as recorded_steps}
-use Rattle.loose_records.specs.LooseRecords.{NamesEntry, IsClaimed as IsRecorded, IsCommitStep, IsPass}
+use Rattle.loose_records.specs.LooseRecords.{NamesEntry, IsClaimed as IsRecorded, IsPass}
 use Rattle.loose_records.specs.LooseRecords.{IsLoose}
 use Rattle.round_ledger.specs.Cells.{log_events}
 use Rattle.pass_seats.specs.declared.pass.Done.{Done}
@@ -34,13 +34,13 @@ use Rattle.pass_seats.specs.Passes.{IsSeatPass, HasDone, ComesTo, CommitsSoFar, 
 use Rattle.pass_seats.specs.Seats.{SeatState, IsClaimed, logs_of}
 use Rattle.pass_gather.specs.Given.{given_of, AreSeats, IsRecordOf, Tells, Lists}
 use Rattle.pass_gather.specs.Gathers.{GathersBoxes, GathersSched, record_of}
-use Rattle.pass_gather.proofs.Lists.{some_same, less_or, map_prefix, get_map, get_unmap, get_there}
+use Rattle.pass_gather.proofs.Lists.{some_same, map_prefix, get_unmap, get_there}
 use Rattle.pass_gather.proofs.Lists.{filter_map_same, same_list, contains_get, contains_prefix}
 use Rattle.pass_gather.proofs.Owns.{own_first}
 use Rattle.pass_gather.proofs.Counting.{started_many}
 use Rattle.pass_gather.proofs.Commits.{PassLaws, commits, rises_to}
 use Rattle.pass_gather.proofs.Owners.{IsGiven, given_seat, seat_given, pass_started, step_there, made_at}
-use Rattle.pass_gather.proofs.Owners.{owner}
+use Rattle.pass_gather.proofs.Owners.{owner, whole_at}
 use Rattle.pass_gather.proofs.Owners.{journal_is}
 
 module _ (names : Names) (code : List Method) (first : ℕ → List Value) (last : State)
@@ -65,7 +65,7 @@ module _ (names : Names) (code : List Method) (first : ℕ → List Value) (last
   kept : (j : ℕ) (p : SeatPass) → slice_get (given_of seats) j ≡ Some p → Kept p
   kept j p at =
       let f = given_seat seats j p at in
-      record { given = f; pass = (are.each f.number f.seat f.there).whole.passes f.slot p f.here }
+      record { given = f; pass = (whole_at names f.number f.seat (are.each f.number f.seat f.there)).passes f.slot p f.here }
 
   -- its start stands in the journal, and its ticket among the started, at its number
   started_at : (j : ℕ) (p : SeatPass) → slice_get (given_of seats) j ≡ Some p →
@@ -259,7 +259,7 @@ module _ (names : Names) (code : List Method) (first : ℕ → List Value) (last
   entry_claimed passes lists b place e at =
       let o = owner names last logs seats are g b place e at in
       entry_recorded passes lists b place e o.number o.seat o.there
-      ((are.each o.number o.seat o.there).whole.claimed b place e o.own)
+      ((whole_at names o.number o.seat (are.each o.number o.seat o.there)).claimed b place e o.own)
 
   -- the parts make a loose record
   pub gathered : (passes : List PassRecord) → Lists (given_of seats) machine.starts passes →

@@ -3,7 +3,7 @@ use Rattle.std.specs.Prelude.{◌≡◌, ℕ, ◌<◌, List, length, map, All, S
 use Rattle.seuss_program.specs.declared.state.State.{State}
 use Rattle.seuss_program.specs.Programs.{vars_of}
 use Rattle.method_code.specs.Codes.{compiled}
-use Rattle.compat_scheduler.specs.Machines.{Machine, running_count}
+use Rattle.compat_scheduler.specs.Machines.{Machine}
 use Rattle.compat_scheduler.specs.Runs.{IsRun}
 use Rattle.step_journal.specs.Histories.{Log, entries_of, IsNoteOf}
 use Rattle.loose_records.specs.declared.record.BoxEntry.{BoxEntry}

@@ -16,9 +16,8 @@ ghost use Rattle.round_ledger.specs.Cells.{CellState, HasEnded, IsOwned, IsOpenO
 ghost use Rattle.pass_seats.specs.Names.{Names, AreNames};
 ghost use Rattle.pass_seats.specs.Desks.{finishes_in};
 ghost use Rattle.pass_seats.specs.Seats.{SeatState, is_done};
-ghost use Rattle.pass_gather.specs.Given.{given_of, notes_of, AreSeats, TookItsOwn, AllFinished};
-ghost use Rattle.pass_gather.specs.Given.{HaveAllNumbers};
-ghost use Rattle.pass_gather.specs.Given.{Lists};
+ghost use Rattle.pass_gather.specs.Given.{given_of, notes_of, places_of, AreSeats, TookItsOwn, AllFinished};
+ghost use Rattle.pass_gather.specs.Given.{HaveAllNumbers, AreBelow, Lists};
 ghost use Rattle.pass_gather.specs.Closing.{ClosesAll, ClosesSched};
 ghost use Rattle.pass_gather.specs.Gathers.{GathersBoxes, GathersSched, record_of};
 ghost use Rattle.pass_gather.specs.Made.{SeatsMade};
@@ -35,15 +34,24 @@ pub fn an_ended_run_is_over()
     an_ended_run_stays();
 }
 
-/// Where nothing runs, each seat was given just the passes that it has started, and the seats have counted
-/// as many finishes as the scheduler, all started passes were given, and each of them has finished.
-pub fn no_pass_is_open()
+/// Where each seat was given just the passes that it has started, as many were given as were started.
+pub fn all_starts_were_given()
     ensures { (setting : Setting) (machine : Machine) (sched : Log SchedEntry) (seats : List SeatState) →
         IsRun setting (log_events sched) machine → All (IsOwned (length seats)) sched →
-        All (λ p. IsOpenOrOver setting machine (length seats) sched p.1) sched → running_count machine ≡ 0 →
         ((w : ℕ) (s : SeatState) → slice_get seats w ≡ Some s → (s.number ≡ w) × TookItsOwn sched s) →
-        sum_by (λ s. count_by is_done s.passes) seats ≡ finishes_in sched →
-        AllFinished machine.starts (given_of seats) }
+        length (given_of seats) ≡ machine.starts }
+{
+    passes_are_numbered();
+}
+
+/// Where nothing runs, as many passes were given as were started, and the seats have counted as many finishes
+/// as the scheduler, each given pass has finished.
+pub fn no_pass_is_open()
+    ensures { (setting : Setting) (machine : Machine) (sched : Log SchedEntry) (seats : List SeatState)
+        (count : ℕ) → IsRun setting (log_events sched) machine → All (IsOwned count) sched →
+        All (λ p. IsOpenOrOver setting machine count sched p.1) sched → running_count machine ≡ 0 →
+        length (given_of seats) ≡ machine.starts →
+        sum_by (λ s. count_by is_done s.passes) seats ≡ finishes_in sched → AllFinished (given_of seats) }
 {
     passes_are_numbered();
 }
@@ -52,11 +60,11 @@ pub fn no_pass_is_open()
 pub fn the_boxes_gather()
     ensures { (names : Names) (code : List Method) (first : ℕ → List Value) (last : State)
         (logs : List (Log BoxEntry)) (seats : List SeatState) → AreNames names code first →
-        ClosesAll names code first last logs seats → GathersBoxes names last logs seats }
+        ClosesAll names code first last logs (map places_of seats) → GathersBoxes names last logs seats }
 {}
 
 /// The close of a scheduler that has ended, with the notes of all seats and of the passes that they were
-/// given, gives what a record needs of it. Each number below the starts is that of a given pass.
+/// given, gives what a record needs of it. The numbers of the given passes are those below the starts.
 pub fn the_scheduler_gathers()
     ensures gathers { (names : Names) (cell : CellState) (seats : List SeatState) →
         ClosesSched names cell (notes_of seats) → AreSeats names seats →
@@ -65,6 +73,9 @@ pub fn the_scheduler_gathers()
     ensures numbers { (names : Names) (cell : CellState) (seats : List SeatState) →
         ClosesSched names cell (notes_of seats) → AreSeats names seats →
         HaveAllNumbers cell.machine.starts (given_of seats) }
+    ensures below { (names : Names) (cell : CellState) (seats : List SeatState) →
+        ClosesSched names cell (notes_of seats) → AreSeats names seats →
+        AreBelow cell.machine.starts (given_of seats) }
 {
     passes_are_numbered();
     an_ended_run_is_over();
@@ -99,13 +110,13 @@ pub fn the_record_is_the_seats_own()
 pub fn a_gathered_run_is_a_loose_record()
     ensures loose { (names : Names) (code : List Method) (first : ℕ → List Value) (last : State)
         (logs : List (Log BoxEntry)) (cell : CellState) (seats : List SeatState) (passes : List PassRecord) →
-        AreNames names code first → ClosesAll names code first last logs seats →
+        AreNames names code first → ClosesAll names code first last logs (map places_of seats) →
         ClosesSched names cell (notes_of seats) → AreSeats names seats →
         HasEnded names.setting.scheduler cell.machine → Lists (given_of seats) cell.machine.starts passes →
         IsLoose names.setting (record_of names.first last logs cell.journal.log passes) }
     ensures made { (names : Names) (code : List Method) (first : ℕ → List Value) (last : State)
         (logs : List (Log BoxEntry)) (cell : CellState) (seats : List SeatState) (passes : List PassRecord) →
-        AreNames names code first → ClosesAll names code first last logs seats →
+        AreNames names code first → ClosesAll names code first last logs (map places_of seats) →
         ClosesSched names cell (notes_of seats) → AreSeats names seats →
         HasEnded names.setting.scheduler cell.machine →
         SeatsMade seats (record_of names.first last logs cell.journal.log passes) }

@@ -1,4 +1,4 @@
-use Rattle.std.proofs.Common.{◌≡◌, ◌⊎◌, inl, inr, true, ⊎_elim}
+use Rattle.std.proofs.Common.{◌≡◌, inl, inr, true, ⊎_elim}
 use Rattle.compat_scheduler.specs.Machines.{IsAllDone, running_count}
 use Rattle.loose_records.specs.LooseRecords.{IsOver}
 use Rattle.round_ledger.specs.Cells.{log_events}
