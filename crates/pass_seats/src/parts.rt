@@ -1,6 +1,8 @@
 //! Desks, seats and passes, taken apart once their engine has ended.
 
-ghost use Rattle.std.specs.Prelude.{◌≡◌};
+ghost use Rattle.std.specs.Prelude.{◌≡◌, All};
+ghost use Rattle.compat_scheduler.specs.Runs.{IsRun};
+ghost use Rattle.round_ledger.specs.Cells.{IsOwned, log_events};
 ghost use Rattle.pass_seats.specs.Desks.{IsBoxDesk, IsSchedDesk};
 ghost use Rattle.pass_seats.specs.Seats.{IsSeat};
 
@@ -137,6 +139,16 @@ impl<N: EngineNames> BoxDesk<N> {
 }
 
 impl<N: EngineNames> SchedDesk<N> {
+    /// What the journal of the scheduler is: a run, of which each start was made by a seat.
+    pub fn facts(&self)
+        ensures run { IsRun N.names.setting.scheduler (log_events self.now.cell.journal.log)
+            self.now.cell.machine }
+        ensures owners { All (IsOwned N.names.seats) self.now.cell.journal.log }
+        ensures kept { IsSchedDesk N.names self.now }
+    {
+        self.cell.facts();
+    }
+
     /// The cell, the view of the quit word, the first view and the book, with what the desk has kept of them.
     pub fn apart(self) -> (SchedCell, QuitView, QuitFirst, Book<N>)
         ensures cell { result.0 ≡ self.cell }
