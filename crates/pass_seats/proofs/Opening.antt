@@ -39,10 +39,10 @@ pub fresh_seat : (names : Names) (number : ℕ) (places : List Place) (note : No
     (share : ShareState) (quit : Q.SeatState) (parts amount : ℕ) (passes : List SeatPass) →
     ArePlaces names number places → length places ≡ length names.boxes → number < names.seats →
     note.journal ≡ names.sched → note.maker ≡ number → IsPair note share →
-    (quit.number ≡ number) × (quit.name ≡ names.quit) → parts ≡ 1 → amount ≡ 0 → passes ≡ [] →
+    (quit.number ≡ number) × (quit.name ≡ names.quit) → quit.mark ≡ false → parts ≡ 1 → amount ≡ 0 → passes ≡ [] →
     IsSeat names (seat_at number places note share quit parts amount passes false)
-fresh_seat names number places note share quit parts amount passes are many less journal maker pair quit_is parts_is
-    amount_is none = record {
+fresh_seat names number places note share quit parts amount passes are many less journal maker pair quit_is unmarked
+    parts_is amount_is none = record {
       number = less;
       many = many;
       places = λ b p at. (are b p at).0;
@@ -52,6 +52,7 @@ fresh_seat names number places note share quit parts amount passes are many less
       quit = quit_is;
       part = parts_is;
       torn = λ e. absurd (grind (arith, e));
+      unmarked = λ _. unmarked;
       whole = λ _. record {
         amount = amount_is ∙ sym (ap (count_by is_done) none);
         passes = λ k p at. absurd (none_some p (subst (λ (ps : List SeatPass). slice_get ps k ≡ Some p) none at));

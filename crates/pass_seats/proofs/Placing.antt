@@ -70,6 +70,7 @@ placed_seat names s b place seen passes at still seat whole = record {
   quit = seat.quit;
   part = seat.part;
   torn = seat.torn;
+  unmarked = seat.unmarked;
   whole = whole;
 }
 
@@ -88,6 +89,7 @@ torn_seat names s b place seen quit passes at still same has seat = record {
   quit = (same.0 ∙ seat.quit.0, same.1 ∙ seat.quit.1);
   part = seat.part;
   torn = λ _. has;
+  unmarked = λ e. absurd (grind (arith, e));
   whole = λ e. absurd (grind (arith, e));
 }
 
@@ -113,6 +115,7 @@ gave_up names s quit note share amount passes seat journal maker pair same has =
   quit = (same.0 ∙ seat.quit.0, same.1 ∙ seat.quit.1);
   part = seat.part;
   torn = λ _. has;
+  unmarked = λ e. absurd (grind (arith, e));
   whole = λ e. absurd (grind (arith, e));
 }
 
@@ -125,9 +128,9 @@ has_seen old new h =
 
 -- the seat with another view of the quit word
 quit_seat : (names : Names) (s : SeatState) (quit : Q.SeatState) →
-    (quit.number ≡ s.quit.number) × (quit.name ≡ s.quit.name) → (HasSeen s.quit.seen → HasSeen quit.seen) →
-    IsSeat names s → IsSeat names (record s { quit = quit })
-quit_seat names s quit same seen seat = record {
+    (quit.number ≡ s.quit.number) × (quit.name ≡ s.quit.name) → quit.mark ≡ s.quit.mark →
+    (HasSeen s.quit.seen → HasSeen quit.seen) → IsSeat names s → IsSeat names (record s { quit = quit })
+quit_seat names s quit same mark seen seat = record {
   number = seat.number;
   many = seat.many;
   places = seat.places;
@@ -137,6 +140,7 @@ quit_seat names s quit same seen seat = record {
   quit = (same.0 ∙ seat.quit.0, same.1 ∙ seat.quit.1);
   part = seat.part;
   torn = λ e. seen (seat.torn e);
+  unmarked = λ e. mark ∙ seat.unmarked e;
   whole = λ e. let w = seat.whole e in record { amount = w.amount; passes = w.passes; claimed = w.claimed };
 }
 
@@ -146,9 +150,11 @@ pub looked_seat : (names : Names) (s : SeatState) (quit : Q.SeatState) (r : Opti
     IsSeat names s → IsSeat names (record s { quit = quit })
 looked_seat names s quit None h seat =
     quit_seat names s quit (ap (λ (q : Q.SeatState). q.number) h.0, ap (λ (q : Q.SeatState). q.name) h.0)
+    (ap (λ (q : Q.SeatState). q.mark) h.0)
     (λ t. (t.0, ap (λ (q : Q.SeatState). q.seen) h.0 ∙ t.1)) seat
 looked_seat names s quit (Some n) h seat =
     quit_seat names s quit (ap (λ (q : Q.SeatState). q.number) h, ap (λ (q : Q.SeatState). q.name) h)
+    (ap (λ (q : Q.SeatState). q.mark) h)
     (λ t. (n, ap (λ (q : Q.SeatState). q.seen) h)) seat
 
 -- the seat with another note of the scheduler's journal, and other passes
@@ -165,6 +171,7 @@ with_note names s note share seat journal maker pair = record {
   quit = seat.quit;
   part = seat.part;
   torn = seat.torn;
+  unmarked = seat.unmarked;
   whole = λ e. let w = seat.whole e in record { amount = w.amount; passes = w.passes; claimed = w.claimed };
 }
 
@@ -182,6 +189,7 @@ with_passes names s parts amount passes seat same whole = record {
   quit = seat.quit;
   part = same ∙ seat.part;
   torn = seat.torn;
+  unmarked = seat.unmarked;
   whole = λ e. let w = whole e in record { amount = w.amount; passes = w.passes; claimed = w.claimed };
 }
 

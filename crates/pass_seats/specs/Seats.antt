@@ -72,7 +72,8 @@ pub record IsWhole (names : Names) (s : SeatState) : Type 0 where
   pub claimed : (b place : ℕ) (e : BoxEntry) → slice_get (log_at (logs_of s.places) b) place
       ≡ Some (s.number, e) → IsClaimed s.passes b place e
 
--- A seat of the engine. After a call with it was refused for want of memory it has seen who gave up.
+-- A seat of the engine. After a call with it was refused for want of memory it has seen who gave up; until then it
+-- hasn't given up itself.
 pub record IsSeat (names : Names) (s : SeatState) : Type 0 where
   pub number : s.number < names.seats
   pub many : length s.places ≡ length names.boxes
@@ -83,4 +84,5 @@ pub record IsSeat (names : Names) (s : SeatState) : Type 0 where
   pub quit : (s.quit.number ≡ s.number) × (s.quit.name ≡ names.quit)
   pub part : s.parts ≡ 1
   pub torn : s.torn ≡ true → HasSeen s.quit.seen
+  pub unmarked : s.torn ≡ false → s.quit.mark ≡ false
   pub whole : s.torn ≡ false → IsWhole names s

@@ -14,4 +14,5 @@ invariant_of-result g c =
     (subst (λ (n : ℕ). n < g.N.EngineNames.names.seats) (sym number) c.requires.number)
     (ap (λ n. n.journal) note ∙ c.requires.sched.2) maker c.in_ok-note.ensures.pair
     (ap (λ q. q.number) c.worker.ensures.seat, ap (λ q. q.name) c.worker.ensures.seat ∙ c.requires.quit.0)
+    (ap (λ q. q.mark) c.worker.ensures.seat)
     c.split_off.ensures.parts c.split_off.ensures.amount c.new.ensures.items
