@@ -1,0 +1,15 @@
+mod ListPlaces
+mod BoxesShown
+mod ClaimsShown
+mod SlotsShown
+mod PassesShown
+mod HandsShown
+mod StartsShown
+mod StepsShown
+mod FinishesShown
+mod TurnsShown
+mod RunsBegun
+mod RecordsGathered
+mod Refusals
+mod SeatsSame
+mod RunsShown
