@@ -1,0 +1,12 @@
+pub mod ExpressionLayers
+pub mod SideNodes
+pub mod TextNodes
+pub mod StatementLayers
+pub mod RowLaws
+pub mod CountLaws
+pub mod Growth
+pub mod SeenLaws
+pub mod BodyLaws
+pub mod FindingLaws
+pub mod EndLaws
+pub mod FrameLaws
