@@ -11,5 +11,8 @@ mod TurnsShown
 mod RunsBegun
 mod RecordsGathered
 mod Refusals
+mod EndsTold
 mod SeatsSame
+mod SeatsWhole
+mod TurnsTaken
 mod RunsShown

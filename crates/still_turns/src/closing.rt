@@ -1,6 +1,6 @@
 //! The record of an engine whose run has ended.
 
-ghost use Rattle.std.specs.Prelude.{◌≡◌, All, length, IfOk};
+ghost use Rattle.std.specs.Prelude.{◌≡◌, All, length, IfOk, OnOk};
 ghost use Rattle.round_ledger.specs.Cells.{HasEnded};
 ghost use Rattle.pass_seats.specs.Seats.{IsSeat};
 ghost use Rattle.pass_gather.specs.Given.{given_of};
@@ -20,14 +20,22 @@ fn cores_of<N: EngineNames>(
     seats: Vec<WorkerSeat<N>>,
 ) -> Result<Vec<SeatCore<N>>, Memory>
     ensures cores { IfOk result (λ cores. cores.items ≡ seats.items) }
-    ensures seats { IfOk result (λ cores. All (IsSeat N.names) cores.items) }
+    ensures seats { OnOk result (All (IsSeat N.names) seats.items) }
 {
     let mut cores = Vec::new(alloc);
     for seat in seats {
-        seat.facts();
-        cores.push(seat.into_core())?;
+        cores.push(core_of(seat))?;
     }
     Ok(cores)
+}
+
+/// The core of a seat.
+fn core_of<N: EngineNames>(seat: WorkerSeat<N>) -> SeatCore<N>
+    ensures core { result ≡ seat }
+    ensures seat { IsSeat N.names seat }
+{
+    seat.facts();
+    seat.into_core()
 }
 
 /// The record of an engine whose run has ended, with its seats.

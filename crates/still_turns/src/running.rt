@@ -120,7 +120,7 @@ fn take_turns<'a, N: EngineNames>(
     let mut hands = no_hands(alloc, width)?;
     for turn in 0..u64::MAX {
         let worker = worker_of(width, digits, turn);
-        let over = has_ended(&mut engine, &mut seats[worker as usize]);
+        let over = has_ended(&mut engine, &mut seats, worker);
         if over {
             return close(alloc, engine, seats);
         }

@@ -125,13 +125,14 @@ pub fn work_of<'a, N: EngineNames>(
         × Works N.names N.code N.first engine.old engine.new seat after hand next) }
 {
     let hand = hands.replace(worker, InHand::Nothing);
-    let next = work(alloc, engine, &mut seats[worker as usize], hand)?;
+    let seat = &mut seats[worker as usize];
+    let next = work(alloc, engine, seat, hand)?;
     hands.set(worker, next);
     Ok(())
 }
 
-/// Whether the run has ended, as a worker is told.
-pub fn has_ended<'a, N: EngineNames>(
+/// Whether the run has ended, as the worker with this seat is told.
+fn is_told_ended<'a, N: EngineNames>(
     engine: &mut StillEngine<'a, N>,
     seat: &mut WorkerSeat<N>,
 ) -> bool
@@ -146,4 +147,24 @@ pub fn has_ended<'a, N: EngineNames>(
         Ok(Standing::Going) => false,
         Err(_) => unreachable!(),
     }
+}
+
+/// Whether the run has ended, as one of the workers is told.
+pub fn has_ended<'a, N: EngineNames>(
+    engine: &mut StillEngine<'a, N>,
+    seats: &mut Vec<WorkerSeat<N>>,
+    worker: u64,
+) -> bool
+    requires going { engine.old.given_up ≡ None }
+    requires within { worker < length seats.old.items }
+    requires of { (seat : SeatState) → slice_get seats.old.items worker ≡ Some seat →
+        IsSeatOf engine.old seat }
+    ensures ended { IsTrue result ↔ HasEnded engine.old.sched.setting engine.old.sched.machine }
+    ensures engine { engine.new ≡ engine.old }
+    ensures seats { (seat : SeatState) × (after : SeatState)
+        × (slice_get seats.old.items worker ≡ Some seat)
+        × (seats.new.items ≡ slice_set seats.old.items worker after) × IsSameWorker seat after }
+{
+    let seat = &mut seats[worker as usize];
+    is_told_ended(engine, seat)
 }

@@ -5,11 +5,11 @@ use Rattle.still_turns.proofs.running.run_on_engine.Given as goal
 
 -- the tables and the first state of this engine name it
 abbrev pub ghosts-run_named-N-EngineNames : goal.ghosts-run_named-N-EngineNames
-ghosts-run_named-N-EngineNames g a =
+ghosts-run_named-N-EngineNames a =
     record { names = names_of a.blank a.width (setting_of a.program.now a.rows a.rounds a.budget) a.state }
 
 abbrev pub ghosts-run_named-N-CellNames : goal.ghosts-run_named-N-CellNames
-ghosts-run_named-N-CellNames g a = record { code = a.code.now; first = vars_of a.state }
+ghosts-run_named-N-CellNames a = record { code = a.code.now; first = vars_of a.state }
 
 abbrev pub ghosts-run_named-N-Ledger : goal.ghosts-run_named-N-Ledger
-ghosts-run_named-N-Ledger g a = record { name = a.blank.ledger; parts = a.blank.parts }
+ghosts-run_named-N-Ledger a = record { name = a.blank.ledger; parts = a.blank.parts }

@@ -1,5 +1,5 @@
 use Rattle.still_turns.proofs.Refusals.{standing_told}
-use Rattle.still_turns.proofs.working.has_ended.Goals as goal
+use Rattle.still_turns.proofs.working.is_told_ended.Goals as goal
 
 pub unreachable-requires : goal.unreachable-requires
 unreachable-requires g c =
