@@ -23,7 +23,9 @@ take_turns-requires-clause-seats g c = (
   sym c.requires.ledger.1 ∙ c.requires.ledger.2,
 )
 
-pub returns-clause-made : goal.returns-clause-made
-returns-clause-made g c =
-    subst (λ (n : Names). IfOk c.take_turns.result
-    (IsRecordOfTurns n.setting n.first c.args.width c.args.digits.now)) c.requires.names c.take_turns.ensures
+pub returns : goal.returns
+returns g c = record {
+  made = subst (λ (n : Names). IfOk c.take_turns.result
+      (IsRecordOfTurns n.setting n.first c.args.width c.args.digits.now)) c.requires.names
+      c.take_turns.ensures;
+}
