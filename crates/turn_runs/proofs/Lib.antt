@@ -3,6 +3,7 @@ pub mod ClockLemmas
 pub mod CommitNumbers
 pub mod ListLemmas
 pub mod PassLengths
+pub mod SettingsOfTurns
 pub mod TurnPaces
 pub mod TurnStates
 pub mod TurnSteps

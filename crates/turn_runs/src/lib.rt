@@ -3,11 +3,11 @@
 
 mod clocks;
 mod hand;
-mod keeping;
+pub mod keeping;
 pub mod laws;
 mod reading;
 mod recording;
 mod run;
 mod turning;
 
-pub use turning::run_by_turns;
+pub use turning::{run_by_turns, worker_of};

@@ -92,7 +92,7 @@ fn no_hands(alloc: Global, width: u32) -> Result<List<Option<Hand>>, Memory>
 }
 
 /// The worker of a turn: by the digits, and then in turn.
-fn worker_of(width: u32, digits: &[u8], turn: u64) -> u64
+pub fn worker_of(width: u32, digits: &[u8], turn: u64) -> u64
     requires workers { 0 < width }
     requires digits { All (λ d. d < width) digits.now }
     ensures value { result ≡ worker_for width digits.now turn }

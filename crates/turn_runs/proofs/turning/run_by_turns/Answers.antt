@@ -1,26 +1,13 @@
-use Rattle.std.proofs.Common.{◌≡◌, ℕ, ◌+◌, ◌*◌, ◌<◌, ◌≤◌, List, length, Some, refl, sym, subst, ap, ◌∙◌, arith}
+use Rattle.std.proofs.Common.{◌≡◌, ℕ, ◌+◌, ◌<◌, List, length, Some, refl, sym, subst, ap, ◌∙◌, arith}
 use Rattle.std.proofs.Common.{slice_get}
 use Rattle.std.specs.Prelude.{slice_set, Option, ◌^◌, ◌-◌}
-use Rattle.std.proofs.lemmas.List.FromFn.{length-range_with_len}
-use Rattle.seuss_base.specs.Tables.{Table}
-use Rattle.seuss_program.specs.declared.program.Program.{Program}
-use Rattle.seuss_program.specs.Keeping.{Keeps}
 use Rattle.compat_scheduler.specs.Settings.{Setting, one_slot_each}
 use Rattle.compat_scheduler.specs.Machines.{beginning}
 use Rattle.turn_runs.specs.declared.hand.Hand.{Hand}
-use Rattle.turn_runs.specs.RunStates.{HasTurned, IsTurnSetting, turning_of}
+use Rattle.turn_runs.specs.RunStates.{HasTurned, turning_of}
 use Rattle.turn_runs.specs.TurnSettings.{setting_of}
+use Rattle.turn_runs.proofs.SettingsOfTurns.{is_setting}
 use Rattle.turn_runs.proofs.turning.run_by_turns.Goals as goal
-
--- the setting is one of turns
-is_setting : (p : Program) (rows : Table) (rounds budget : ℕ) → Keeps p → budget ≤ 1000000 →
-    rounds * length p.actions ≤ 10000000 → IsTurnSetting (setting_of p rows rounds budget)
-is_setting p rows rounds budget keeps small few = record {
-  keeps = keeps;
-  small = small;
-  slots = refl;
-  few = subst (λ (k : ℕ). rounds * k ≤ 10000000) (sym (length-range_with_len 0 (length p.actions))) few;
-}
 
 pub loop-turn-init : goal.loop-turn-init
 loop-turn-init c =
