@@ -12,8 +12,7 @@ is_told_ended-requires-clause-of g c =
 pub returns-clause-seats : goal.returns-clause-seats
 returns-clause-seats g c =
     let items = c.args.seats.now.items in
-    let seat = c.index_mut-seat.result.now in
-    (
+    let seat = c.index_mut-seat.result.now in (
       seat,
       c.is_told_ended.new.seat,
       slice_get_read items (length items) c.args.worker seat refl c.requires.within c.index_mut-seat.ensures.value,

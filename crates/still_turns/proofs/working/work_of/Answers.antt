@@ -22,8 +22,7 @@ work-requires-clause-may g c =
 pub returns : goal.returns
 returns g c =
     let items = c.args.seats.now.items in
-    let seat = c.index_mut-seat.result.now in
-    (
+    let seat = c.index_mut-seat.result.now in (
       seat,
       c.work.new.seat,
       c.replace-hand.result,
