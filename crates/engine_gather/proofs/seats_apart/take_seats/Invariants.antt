@@ -1,0 +1,11 @@
+use Rattle.std.proofs.Common.{All}
+use Rattle.worker_seats.specs.Workers.{IsWorker}
+use Rattle.engine_gather.specs.Parting.{AreApart}
+use Rattle.engine_gather.proofs.seats_apart.take_seats.Given as goal
+
+-- the seats so far
+abbrev pub invariant-loop-seat : goal.invariant-loop-seat
+invariant-loop-seat g l = record {
+  apart : AreApart l.fn.turns.items l.yielded l.made;
+  kept : All (IsWorker g.N.EngineNames.names) l.yielded;
+}

@@ -1,0 +1,25 @@
+use Rattle.std.proofs.Common.{◌≡◌, List, ◌∷◌, ◌++◌, [], map, ap, sym, ◌∙◌, append_assoc, All, Some}
+use Rattle.std.proofs.lemmas.List.{map-append}
+use Rattle.std.proofs.lemmas.List.Elements.{All-pop}
+use Rattle.ready_queue.specs.declared.view.Row.{Row}
+use Rattle.ready_queue.specs.Seats as Q
+use Rattle.engine_gather.specs.Parting.{row_of}
+use Rattle.engine_gather.proofs.Parting.{row_joined}
+use Rattle.engine_gather.proofs.settling.join_rows.Goals as goal
+
+pub loop-row-preserved : goal.loop-row-preserved
+loop-row-preserved g c =
+    let i = c.loop-row.invariant in
+    let left = c.loop-row.left.items in
+    let rest = c.pop-in-loop-row.new.self.items in
+    let row = c.in-Some-pop.row in
+    let joined = c.join.ensures in
+    let all = All-pop (λ (r : Q.SeatState). r.queue ≡ c.args.queue.now) left rest (Some row)
+    c.in-Some-pop.ensures.items i.queues in
+    record {
+      queues = all.0;
+      queue = ap (λ (l : Q.FirstState). l.queue) joined ∙ i.queue;
+      given = ap (λ (l : Q.FirstState). l.given) joined ∙ i.given;
+      rows = ap (λ (l : Q.FirstState). map row_of rest ++ l.rows) joined
+          ∙ row_joined left rest row c.loop-row.line.rows c.in-Some-pop.ensures.items ∙ i.rows;
+    }

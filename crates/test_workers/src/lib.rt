@@ -1,0 +1,5 @@
+//! Runs of workers at the threaded engine, by threads.
+#![tactic(auto)]
+
+#[cfg(test)]
+mod runs;
