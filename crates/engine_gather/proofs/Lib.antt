@@ -1,6 +1,0 @@
-mod Takes
-mod Ending
-mod Columns
-mod Parting
-mod Looks
-mod AllSeats

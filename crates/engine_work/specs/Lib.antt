@@ -1,3 +1,0 @@
-pub mod Benches
-pub mod Acts
-pub mod Records

@@ -1,5 +1,0 @@
-//! Runs of workers at the threaded engine, by threads.
-#![tactic(auto)]
-
-#[cfg(test)]
-mod runs;
