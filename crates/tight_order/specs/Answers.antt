@@ -1,8 +1,9 @@
 -- What the calls of the interpreter answer, each by the meaning that it meets. Want of memory is free.
-use Rattle.std.specs.Prelude.{◌≡◌, ℕ, suc, List, None, Result, Ok, Err}
+use Rattle.std.specs.Prelude.{◌≡◌, ℕ, ℤ, suc, List, None, Result, Ok, Err}
 use Rattle.seuss_base.specs.declared.outcome.Trap.{Trap}
 use Rattle.seuss_base.specs.declared.outcome.Outcome.TheVariants as O
 use Rattle.seuss_program.specs.declared.state.Value.{Value}
+use Rattle.seuss_program.specs.declared.state.Value.TheVariants as V
 use Rattle.seuss_program.specs.declared.state.State.{State}
 use Rattle.seuss_program.specs.Values.{Evaluated, Part}
 use Rattle.seuss_program.specs.Bodies as B
@@ -25,6 +26,25 @@ Evaluates (Err S.Memory) e = Unit {0}
 pub record HasValue (result : Result Value Stop) (part : Part) (vars slots : List Value) : Type 0 where
   pub value : Evaluates result (part.value vars slots)
   pub beside : Evaluates result (part.beside vars slots)
+
+-- a computation gives the number that is the value, or stops by the trap
+abbrev pub EvaluatesNumber : Result ℤ Stop → Evaluated → Type 0
+EvaluatesNumber (Ok z) e = e ≡ Ok (V.Int z)
+EvaluatesNumber (Err (S.Trapped t)) e = e ≡ Err t
+EvaluatesNumber (Err S.Spent) e = ⊥
+EvaluatesNumber (Err S.Memory) e = Unit {0}
+
+-- what is read of a value, where there is one
+abbrev pub read_as : {A : Type 0} → (Value → A) → Result Value Stop → Result A Stop
+read_as read (Ok v) = Ok (read v)
+read_as read (Err s) = Err s
+
+-- a result is what is read of the value of a part, in every place
+pub record IsRead {A : Type 0} (read : Value → A) (result : Result A Stop) (part : Part)
+    (vars slots : List Value) : Type 0 where
+  pub whole : Result Value Stop
+  pub has : HasValue whole part vars slots
+  pub same : result ≡ read_as read whole
 
 -- arguments give their values from left to right, or stop by the first trap
 abbrev pub Gives : Result (List Value) Stop → Result (List Value) Trap → Type 0

@@ -1,5 +1,5 @@
--- Operators that may need their left part alone.
-use Rattle.std.specs.Prelude.{Bool, false, not}
+-- What operators need of their parts: the left one alone, or numbers alone.
+use Rattle.std.specs.Prelude.{Bool, true, false, not}
 use Rattle.seuss_program.specs.declared.tree.Op.{Op}
 use Rattle.seuss_program.specs.declared.tree.Op.TheVariants as O
 
@@ -22,3 +22,43 @@ decides O.Divide left = false
 decides O.Remainder left = false
 decides O.At left = false
 decides O.Add left = false
+
+-- whether an operator computes a number from two numbers
+abbrev pub computes : Op → Bool
+computes O.Or = false
+computes O.And = false
+computes O.Eq = false
+computes O.Ne = false
+computes O.Lt = false
+computes O.Le = false
+computes O.Gt = false
+computes O.Ge = false
+computes O.Plus = true
+computes O.Minus = true
+computes O.WrapPlus = true
+computes O.WrapMinus = true
+computes O.Times = true
+computes O.Divide = true
+computes O.Remainder = true
+computes O.At = false
+computes O.Add = false
+
+-- whether an operator looks at its parts as numbers alone
+abbrev pub takes_numbers : Op → Bool
+takes_numbers O.Or = false
+takes_numbers O.And = false
+takes_numbers O.Eq = false
+takes_numbers O.Ne = false
+takes_numbers O.Lt = true
+takes_numbers O.Le = true
+takes_numbers O.Gt = true
+takes_numbers O.Ge = true
+takes_numbers O.Plus = true
+takes_numbers O.Minus = true
+takes_numbers O.WrapPlus = true
+takes_numbers O.WrapMinus = true
+takes_numbers O.Times = true
+takes_numbers O.Divide = true
+takes_numbers O.Remainder = true
+takes_numbers O.At = false
+takes_numbers O.Add = false

@@ -5,11 +5,13 @@ ghost use Rattle.std.specs.Prelude.{◌≡◌, IfOk, OnOk};
 ghost use Rattle.seuss_program.specs.Attempts.{tight as tight_run};
 
 mod action;
+mod arithmetic;
 mod attempt;
 mod body;
 mod entry;
 mod frame;
 mod pay;
+mod sequences;
 mod stop;
 mod store;
 mod value;

@@ -1,6 +1,6 @@
 use Rattle.std.proofs.Common.{rules}
 use Rattle.std.proofs.lemmas.Int.{wraps}
-use Rattle.tight_order.proofs.value.wrapped_sum.Goals as goal
+use Rattle.tight_order.proofs.arithmetic.wrapped_sum.Goals as goal
 
 pub returns : goal.returns
 returns c = search (rules, wraps)
