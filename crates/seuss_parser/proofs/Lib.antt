@@ -2,8 +2,13 @@ mod AheadReads
 mod CallReads
 mod ChoiceReads
 mod CommonReads
+mod CutExpressions
+mod CutMany
+mod CutReads
 mod DeclarationReads
+mod ExpressionAnswers
 mod ExpressionReads
+mod Extents
 mod FirstSets
 mod FrontLemmas
 mod InputAnswers
@@ -16,6 +21,7 @@ mod ListLemmas
 mod LoopLemmas
 mod NamedReads
 mod OneAnswer
+mod OneExpression
 mod ProgramAnswers
 mod RepeatReads
 mod Samples

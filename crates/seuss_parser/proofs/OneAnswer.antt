@@ -12,59 +12,8 @@ use Rattle.seuss_parser.specs.declared.refusal.ParseRefusal.{ParseRefusal}
 use Rattle.seuss_parser.specs.declared.refusal.ParseRefusal.TheVariants.{Syntax, Nesting, Memory}
 use Rattle.seuss_parser.specs.declared.word.Word.{Word}
 use Rattle.seuss_program.specs.declared.tree.Tree.{Tree}
-use Rattle.seuss_parser.proofs.ListLemmas.{append-nothing, append-cancel, words_in-append}
-
--- what holds of each item of two lists, one behind the other
-all-behind : {A : Type 0} (P : A → Type 0) (front back : List A) → All P (front ++ back) → All P back
-all-behind P [] back all = all
-all-behind P (x ∷ front) back all = all-behind P front back (All-tail P x (front ++ back) all)
-
-all-before : {A : Type 0} (P : A → Type 0) (front back : List A) → All P (front ++ back) → All P front
-all-before P [] back all = All-nil P
-all-before P (x ∷ front) back all =
-    All-cons P x front (All-head P x (front ++ back) all)
-    (all-before P front back (All-tail P x (front ++ back) all))
-
--- pieces by the place of a word
-record Split (pieces : List Piece) (front : List Word) (word : Word) (behind : List Word) : Type 0 where
-  before : List Piece
-  at : Piece
-  after : List Piece
-  pieces_are : pieces ≡ before ++ at ∷ after
-  before_is : words_in before ≡ front
-  at_is : at.word ≡ word
-  after_is : words_in after ≡ behind
-
-split-behind : (piece : Piece) (pieces : List Piece) (first : Word) (front : List Word) (word : Word)
-    (behind : List Word) → piece.word ≡ first → Split pieces front word behind →
-    Split (piece ∷ pieces) (first ∷ front) word behind
-split-behind piece pieces first front word behind first_is part = record {
-  before = piece ∷ part.before;
-  at = part.at;
-  after = part.after;
-  pieces_are = ap (λ ps. piece ∷ ps) part.pieces_are;
-  before_is = ap (λ w. w ∷ words_in part.before) first_is ∙ ap (λ ws. first ∷ ws) part.before_is;
-  at_is = part.at_is;
-  after_is = part.after_is;
-}
-
-split : (pieces : List Piece) (front : List Word) (word : Word) (behind : List Word) →
-    words_in pieces ≡ front ++ word ∷ behind → Split pieces front word behind
-split [] [] word behind are = absurd (cc)
-split [] (first ∷ front) word behind are = absurd (cc)
-split (piece ∷ pieces) [] word behind are = record {
-  before = [];
-  at = piece;
-  after = pieces;
-  pieces_are = refl;
-  before_is = refl;
-  at_is = cc;
-  after_is = cc;
-}
-split (piece ∷ pieces) (first ∷ front) word behind are =
-    let first_is : piece.word ≡ first = cc in
-    let others_are : words_in pieces ≡ front ++ word ∷ behind = cc in
-    split-behind piece pieces first front word behind first_is (split pieces front word behind others_are)
+use Rattle.seuss_parser.proofs.ListLemmas.{append-nothing, words_in-append}
+use Rattle.seuss_parser.proofs.Extents.{all-behind, split, IsBlocked, Extent, one-extent, kept-at, same-rest}
 
 -- a program that begins with pieces begins with the first ones of them
 begins-shorter : (pieces before : List Piece) (at : Piece) (after : List Piece) →
@@ -80,98 +29,8 @@ begins-shorter pieces before at after are words begun = record {
       ∙ sym (append_assoc before (at ∷ []) (after ++ begun.rest))) begun.derives;
 }
 
--- no program that is within the limits goes on behind these words with the next one
-record IsBlocked (front rest : List Word) : Type 0 where
-  beyond : (word : Word) (others : List Word) → rest ≡ word ∷ others → (behind : List Word) →
-      All IsWord behind → IsBeginning (front ++ word ∷ behind) → ⊥
-
--- how far the words are those of a program
-record Extent (words : List Word) : Type 0 where
-  front : List Word
-  rest : List Word
-  words_are : words ≡ front ++ rest
-  begins : IsBeginning front
-  blocked : IsBlocked front rest
-
--- one front goes on where the other one ends
-record Longer (front rest other : List Word) : Type 0 where
-  word : Word
-  others : List Word
-  behind : List Word
-  rest_is : rest ≡ word ∷ others
-  other_is : other ≡ front ++ word ∷ behind
-
-abbrev Meeting : List Word → List Word → List Word → List Word → Type 0
-Meeting front rest other last = (front ≡ other) ⊎ (Longer front rest other ⊎ Longer other last front)
-
--- one more word at both fronts
-meet-behind : (word second : Word) (front rest other last : List Word) → word ≡ second →
-    Meeting front rest other last → Meeting (word ∷ front) rest (second ∷ other) last
-meet-behind word second front rest other last same (inl equal) =
-    inl (ap (λ w. w ∷ front) same ∙ ap (λ ws. second ∷ ws) equal)
-meet-behind word second front rest other last same (inr (inl longer)) = inr (inl (record {
-  word = longer.word;
-  others = longer.others;
-  behind = longer.behind;
-  rest_is = longer.rest_is;
-  other_is = ap (λ ws. second ∷ ws) longer.other_is
-      ∙ ap (λ w. w ∷ (front ++ longer.word ∷ longer.behind)) (sym same);
-}))
-meet-behind word second front rest other last same (inr (inr longer)) = inr (inr (record {
-  word = longer.word;
-  others = longer.others;
-  behind = longer.behind;
-  rest_is = longer.rest_is;
-  other_is = ap (λ ws. word ∷ ws) longer.other_is
-      ∙ ap (λ w. w ∷ (other ++ longer.word ∷ longer.behind)) same;
-}))
-
-meet : (front rest other last : List Word) → front ++ rest ≡ other ++ last → Meeting front rest other last
-meet [] rest [] last same = inl refl
-meet [] rest (word ∷ other) last same = inr (inl (record {
-  word = word;
-  others = other ++ last;
-  behind = other;
-  rest_is = same;
-  other_is = refl;
-}))
-meet (word ∷ front) rest [] last same = inr (inr (record {
-  word = word;
-  others = front ++ rest;
-  behind = front;
-  rest_is = sym same;
-  other_is = refl;
-}))
-meet (word ∷ front) rest (second ∷ other) last same =
-    let first_same : word ≡ second = cc in
-    let others_same : front ++ rest ≡ other ++ last = cc in
-    meet-behind word second front rest other last first_same (meet front rest other last others_same)
-
-not-longer : (words front rest other last : List Word) → All IsWord words → words ≡ other ++ last →
-    IsBlocked front rest → IsBeginning other → Longer front rest other → ⊥
-not-longer words front rest other last all words_are blocked begins longer =
-    let in_words : All IsWord (other ++ last) = subst (λ (ws : List Word). All IsWord ws) words_are all in
-    let in_other : All IsWord (front ++ longer.word ∷ longer.behind) =
-    subst (λ (ws : List Word). All IsWord ws) longer.other_is (all-before IsWord other last in_words) in
-    let in_behind : All IsWord longer.behind = All-tail IsWord longer.word longer.behind
-    (all-behind IsWord front (longer.word ∷ longer.behind) in_other) in
-    blocked.beyond longer.word longer.others longer.rest_is longer.behind in_behind
-    (subst (λ (ws : List Word). IsBeginning ws) longer.other_is begins)
-
--- two extents of the same words are one
-one-extent : (words : List Word) → All IsWord words → (one other : Extent words) → one.front ≡ other.front
-one-extent words all one other =
-    by_meeting (meet one.front one.rest other.front other.rest (sym one.words_are ∙ other.words_are))
-  where
-    by_meeting : Meeting one.front one.rest other.front other.rest → one.front ≡ other.front
-    by_meeting (inl same) = same
-    by_meeting (inr (inl longer)) = absurd (not-longer words one.front one.rest other.front other.rest all
-        other.words_are one.blocked other.begins longer)
-    by_meeting (inr (inr longer)) = absurd (not-longer words other.front other.rest one.front one.rest all
-        one.words_are other.blocked one.begins longer)
-
 -- the extent of a program, and of each refusal
-program-extent : (words : List Word) (tree : Tree) → AreProgram words tree → Extent words
+program-extent : (words : List Word) (tree : Tree) → AreProgram words tree → Extent IsBeginning words
 program-extent words tree program = record {
   front = words;
   rest = [];
@@ -190,7 +49,8 @@ program-extent words tree program = record {
   blocked = record { beyond = λ word others are behind all begins. absurd (cc) };
 }
 
-syntax-blocked : (front rest : List Word) (line : ℕ) → IsNotGoneOn front rest line → IsBlocked front rest
+syntax-blocked : (front rest : List Word) (line : ℕ) → IsNotGoneOn front rest line →
+    IsBlocked IsBeginning front rest
 syntax-blocked front [] line ends = record { beyond = λ word others are behind all begins. absurd (cc) }
 syntax-blocked front (next ∷ rest) line ends = record {
   beyond = λ word others are behind all begins.
@@ -206,7 +66,7 @@ syntax-blocked front (next ∷ rest) line ends = record {
       });
 }
 
-syntax-extent : (words : List Word) (line : ℕ) → IsSyntax words line → Extent words
+syntax-extent : (words : List Word) (line : ℕ) → IsSyntax words line → Extent IsBeginning words
 syntax-extent words line is = record {
   front = is.front;
   rest = is.rest;
@@ -215,15 +75,8 @@ syntax-extent words line is = record {
   blocked = syntax-blocked is.front is.rest line is.ends;
 }
 
--- a kept piece doesn't pass a limit
-kept-at : (pieces before : List Piece) (at : Piece) (after : List Piece) → AreKept pieces →
-    pieces ≡ before ++ at ∷ after → at.passes ≡ false
-kept-at pieces before at after kept are =
-    All-head (λ (p : Piece). p.passes ≡ false) at after
-    (all-behind (λ (p : Piece). p.passes ≡ false) before (at ∷ after) (subst AreKept are kept))
-
 passes-blocked : (front : List Word) (word : Word) (rest : List Word) → Passes front word →
-    IsBlocked front (word ∷ rest)
+    IsBlocked IsBeginning front (word ∷ rest)
 passes-blocked front word rest passes = record {
   beyond = λ next others are behind all begins.
       let part = split begins.pieces front next behind begins.words_are in
@@ -253,7 +106,8 @@ passes-begins front word is_word passes = record {
   };
 }
 
-nesting-extent : (words : List Word) (line : ℕ) → All IsWord words → IsNesting words line → Extent words
+nesting-extent : (words : List Word) (line : ℕ) → All IsWord words → IsNesting words line →
+    Extent IsBeginning words
 nesting-extent words line all is = record {
   front = is.front;
   rest = is.word ∷ is.rest;
@@ -263,12 +117,6 @@ nesting-extent words line all is = record {
       (subst (λ (ws : List Word). All IsWord ws) is.words_are all))) is.passes;
   blocked = passes-blocked is.front is.word is.rest is.passes;
 }
-
--- what is left behind the same words is the same
-same-rest : (words front other rest last : List Word) → words ≡ front ++ rest → words ≡ other ++ last →
-    front ≡ other → rest ≡ last
-same-rest words front other rest last one two same =
-    append-cancel other rest last (ap (λ ws. ws ++ rest) (sym same) ∙ sym one ∙ two)
 
 -- the line of a refusal behind these words
 line-at : List Word → List Word → ℕ

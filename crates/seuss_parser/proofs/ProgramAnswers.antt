@@ -91,7 +91,7 @@ pub record NoneGoesOn (front rest : List Word) : Type 0 where
       words_in pieces ≡ front ++ behind → Alike rest behind → ⊥
 
 -- the words of a program that begins with others
-begun-words : (pieces rest : List Piece) (front : List Word) (word : Word) →
+pub begun-words : (pieces rest : List Piece) (front : List Word) (word : Word) →
     words_in pieces ≡ front ++ word ∷ [] →
     words_in (pieces ++ rest) ≡ front ++ word ∷ words_in rest
 begun-words pieces rest front word are =
@@ -114,7 +114,7 @@ syntax-at_end front ends = (
 )
 
 -- the words before those that are left don't depend on how they were found
-same-front : (words front other rest : List Word) → words ≡ front ++ rest → words ≡ other ++ rest →
+pub same-front : (words front other rest : List Word) → words ≡ front ++ rest → words ≡ other ++ rest →
     front ≡ other
 same-front words front other rest one two = append-cancel_right front other rest (sym one ∙ two)
 

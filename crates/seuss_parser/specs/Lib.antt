@@ -11,6 +11,7 @@ pub mod Inputs
 pub mod Levels
 pub mod Phrases
 pub mod Readings
+pub mod SingleExpressions
 pub mod Spelling
 pub mod StatementReading
 pub mod Symbols

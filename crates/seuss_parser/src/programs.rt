@@ -29,7 +29,7 @@ fn last_line(words: &VecDeque<Word>) -> u32
 }
 
 /// The line of the first word, or this one where there is none.
-fn front_line(words: &VecDeque<Word>, end: u32) -> u32
+pub(crate) fn front_line(words: &VecDeque<Word>, end: u32) -> u32
     ensures { result ≡ front_line words.now.items end }
 {
     match words.front() {
@@ -51,7 +51,7 @@ fn whole_program(alloc: Global, words: &mut Words) -> Result<Tree, Stop>
 }
 
 /// Why reading stopped, with the line where it did.
-fn refusal(stop: Stop, line: u32) -> ParseRefusal
+pub(crate) fn refusal(stop: Stop, line: u32) -> ParseRefusal
     ensures { result ≡ refusal_of stop line }
 {
     match stop {
@@ -81,6 +81,6 @@ pub fn parse(alloc: Global, text: &[u8], tokens: &Tokens) -> Result<Tree, ParseR
     requires limits { AreInLimits text.now tokens.now.list }
     ensures { Parses result (words_of text.now tokens.now.list) }
 {
-    let words = text_words(alloc, text, tokens)?;
+    let words = text_words(alloc, text, tokens, 0)?;
     words_program(alloc, words)
 }

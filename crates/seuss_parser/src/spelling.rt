@@ -1,6 +1,6 @@
 //! Tokens as words of the grammar: symbols, names and numbers.
 
-ghost use Rattle.std.specs.Prelude.{◌≡◌, ◌<◌, length, slice_index_or, Some, IfOk};
+ghost use Rattle.std.specs.Prelude.{◌≡◌, ◌<◌, ◌≤◌, length, drop, slice_index_or, Some, IfOk};
 ghost use Rattle.std.specs.Str.{bytes_eq};
 ghost use Rattle.seuss_text.specs.Words.{kind_of};
 ghost use Rattle.seuss_text.specs.Rows.{AreTokens};
@@ -185,18 +185,20 @@ fn token_word(alloc: Global, text: &[u8], tokens: &Tokens, at: u64) -> Result<Wo
     })
 }
 
-/// The words of a text, by its tokens.
-pub(crate) fn text_words(
+/// The words of a text, by its tokens from this one on.
+pub fn text_words(
     alloc: Global,
     text: &[u8],
     tokens: &Tokens,
+    from: u64,
 ) -> Result<VecDeque<Word>, Memory>
     requires tokens { AreTokens text.now tokens.now.list }
     requires limits { AreInLimits text.now tokens.now.list }
-    ensures { IfOk result (λ words. words.items ≡ words_of text.now tokens.now.list) }
+    requires from { from ≤ length tokens.now.list }
+    ensures { IfOk result (λ words. words.items ≡ drop from (words_of text.now tokens.now.list)) }
 {
     let mut words = VecDeque::new(alloc);
-    for at in 0..tokens.list.len() {
+    for at in from..tokens.list.len() {
         words.push_back(token_word(alloc, text, tokens, at)?)?;
     }
     Ok(words)

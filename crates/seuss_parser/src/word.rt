@@ -26,7 +26,7 @@ pub struct Word {
 
 impl Word {
     /// The word is this symbol.
-    pub(crate) fn is(&self, symbol: Symbol) -> bool
+    pub fn is(&self, symbol: Symbol) -> bool
         ensures { result ≡ is_symbol symbol self.now.sort }
     {
         match &self.sort {
