@@ -1,5 +1,7 @@
+pub mod ExpressionNumbers
 pub mod FirstNames
 pub mod Judged
+pub mod KeptExpressions
 pub mod Lines
 pub mod MeantCalls
 pub mod MeantExpressions
@@ -14,5 +16,6 @@ pub mod OwnNames
 pub mod Registered
 pub mod SameScopes
 pub mod SeenLocals
+pub mod SingleLemmas
 pub mod Walked
 pub mod Zips

@@ -27,7 +27,7 @@ pub data AtPlace (own : Cat Name) (visible : List Local) (name : Name) : Meaning
       AtPlace own visible name m
 
 -- a meaning, or else another one
-abbrev or_meaning : Meaning → Option Meaning → Meaning
+abbrev pub or_meaning : Meaning → Option Meaning → Meaning
 or_meaning other (Some m) = m
 or_meaning other None = other
 

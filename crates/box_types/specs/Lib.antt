@@ -11,6 +11,7 @@ pub mod OwnNames
 pub mod Refusals
 pub mod Registers
 pub mod Scopes
+pub mod SingleExpressions
 pub mod Twice
 pub mod Unknown
 pub mod Walks

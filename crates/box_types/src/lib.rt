@@ -17,8 +17,10 @@ mod refusal;
 mod registers;
 mod resolving;
 mod scopes;
+mod single_expressions;
 mod walk;
 mod walk_cats;
 
 pub use refusal::CheckRefusal;
 pub use resolving::{Resolved, resolve};
+pub use single_expressions::resolve_expr;

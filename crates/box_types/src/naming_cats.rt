@@ -276,7 +276,7 @@ fn make_givens(
     Ok(made)
 }
 
-fn copy_vars(alloc: Global, vars: &[Var]) -> Result<List<Var>, Memory>
+pub(crate) fn copy_vars(alloc: Global, vars: &[Var]) -> Result<List<Var>, Memory>
     ensures { IfOk result (λ made. made ≡ vars.now) }
 {
     let mut made = List::new(alloc);

@@ -55,7 +55,7 @@ impl Resolved {
 }
 
 /// The refusal of a check that stopped.
-fn refusal(check: Check, line: u32) -> CheckRefusal
+pub(crate) fn refusal(check: Check, line: u32) -> CheckRefusal
     ensures { result ≡ refusal_of check line }
 {
     match check {

@@ -36,8 +36,8 @@ use Rattle.box_types.specs.ArgumentCounts.{is_another, arguments_at}
 use Rattle.box_types.specs.Limits.{count_at}
 use Rattle.box_types.specs.Namings as N
 use Rattle.call_order.specs.Calls as C
-use Rattle.call_order.proofs.KeptExpressions.{none-left, none-right, passes-by, same-kind, is-kind-same}
-use Rattle.call_order.proofs.KeptExpressions.{Fits, Agrees, Known, has_kind}
+use Rattle.box_types.proofs.KeptExpressions.{none-left, none-right, passes-by, same-kind, is-kind-same}
+use Rattle.box_types.proofs.KeptExpressions.{Fits, Agrees, Known, has_kind}
 use Rattle.call_order.proofs.NumberPlaces.{number_at, sized-by}
 
 -- the tests of numbers, names, kinds, types, numbers of arguments and limits at a place

@@ -49,7 +49,7 @@ use Rattle.box_types.specs.Namings as N
 use Rattle.box_types.specs.Namings.{Numbered, Numbering}
 use Rattle.call_order.specs.Calls as C
 use Rattle.call_order.specs.Calls.{in_pres, in_bodies, lines_of}
-use Rattle.call_order.proofs.KeptExpressions.{none-left, none-right, passes-by, Fits}
+use Rattle.box_types.proofs.KeptExpressions.{none-left, none-right, passes-by, Fits}
 use Rattle.call_order.proofs.KeptCalls.{all_at, Clean, clean_by, GivenKnown, At, at-number, get-map}
 use Rattle.call_order.proofs.KeptCalls.{cat_at_number, proc_number_is, method-named}
 use Rattle.call_order.proofs.KeptStatements.{not-limit, map-append, first-kind, locals-Let, locals-Assign}

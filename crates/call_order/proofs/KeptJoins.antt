@@ -27,7 +27,7 @@ use Rattle.box_types.specs.Walks as W
 use Rattle.box_types.specs.Walks.{Place, Test, Walked, Walk, Value, Assigned, Takes, Target, Method}
 use Rattle.box_types.specs.Walks.{LocalName, When, ProcName, CatName, GivenName, GivenCat, VarName, First}
 use Rattle.box_types.specs.Walks.{Second, HintName, BoxName, BoxCat, BoxGiven}
-use Rattle.call_order.proofs.KeptExpressions.{none-left, none-right}
+use Rattle.box_types.proofs.KeptExpressions.{none-left, none-right}
 use Rattle.call_order.proofs.StatementLayers.{each, walk-roll, walks-each}
 
 -- the third has no lines where the first two have none

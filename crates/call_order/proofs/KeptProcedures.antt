@@ -36,7 +36,7 @@ use Rattle.box_types.specs.Namings as N
 use Rattle.box_types.specs.Namings.{Numbered}
 use Rattle.call_order.specs.Calls as C
 use Rattle.call_order.specs.Calls.{in_body, in_pre, in_bodies, in_pres, lines_of}
-use Rattle.call_order.proofs.KeptExpressions.{none-left, none-right, passes-by, Fits, Agrees}
+use Rattle.box_types.proofs.KeptExpressions.{none-left, none-right, passes-by, Fits, Agrees}
 use Rattle.call_order.proofs.KeptCalls.{all_at, Clean, clean_by, SeesCat, GivenKnown, At, at-number}
 use Rattle.call_order.proofs.KeptCalls.{get-map, or_meaning, in-cat, Named, kept_call, call_fits}
 use Rattle.call_order.proofs.KeptCalls.{takes_result}

@@ -78,7 +78,7 @@ use Rattle.call_order.proofs.LevelLemmas.{set-length}
 use Rattle.call_order.proofs.NumberLemmas.{numbers-by, statement-roll}
 use Rattle.call_order.proofs.NumberPlaces.{number_at, found_sized}
 use Rattle.call_order.proofs.KeptJoins.{found_join}
-use Rattle.call_order.proofs.KeptExpressions.{none-left, none-right, passes-by}
+use Rattle.box_types.proofs.KeptExpressions.{none-left, none-right, passes-by}
 use Rattle.call_order.proofs.KeptCalls.{all_at, Clean, clean_by, At, at-number, get-map, find-position}
 use Rattle.call_order.proofs.KeptCalls.{cat_at_number}
 use Rattle.call_order.proofs.KeptStatements.{not-limit}

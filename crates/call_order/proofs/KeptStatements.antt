@@ -41,8 +41,8 @@ use Rattle.box_types.specs.Namings.{Numbered, Numbering}
 use Rattle.call_order.specs.Calls as C
 use Rattle.call_order.specs.Calls.{in_statement, in_body, lines_of}
 use Rattle.call_order.proofs.CallLemmas.{lines-Call, lines-If, lines-While}
-use Rattle.call_order.proofs.KeptExpressions.{none-left, none-right, passes-by, is-kind-same, Fits, Agrees}
-use Rattle.call_order.proofs.KeptExpressions.{has_kind, part-known}
+use Rattle.box_types.proofs.KeptExpressions.{none-left, none-right, passes-by, is-kind-same, Fits, Agrees}
+use Rattle.box_types.proofs.KeptExpressions.{has_kind, part-known}
 use Rattle.call_order.proofs.KeptCalls.{all_at, Clean, clean_by, SeesCat, Named, kept_call, call_fits}
 use Rattle.call_order.proofs.KeptCalls.{set_kind, takes_result, or_meaning, in-text}
 use Rattle.call_order.proofs.NumberPlaces.{sized-by}

@@ -3,7 +3,6 @@ pub mod CallLemmas
 pub mod CheckedLemmas
 pub mod KeptCalls
 pub mod KeptCats
-pub mod KeptExpressions
 pub mod KeptJoins
 pub mod KeptProcedures
 pub mod KeptPrograms

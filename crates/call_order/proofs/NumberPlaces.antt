@@ -33,7 +33,8 @@ use Rattle.box_types.specs.Walks as W
 use Rattle.box_types.specs.Walks.{Test, Walked, CatName, GivenName, VarName, ProcName, LocalName, GivenCat}
 use Rattle.box_types.specs.Walks.{When, Value, Assigned, Takes, Target, Method, First, Second, HintName}
 use Rattle.box_types.specs.Walks.{BoxName, BoxCat, BoxGiven}
-use Rattle.call_order.proofs.NumberLemmas.{both, statement-roll, each-numbers}
+use Rattle.box_types.proofs.ExpressionNumbers.{both}
+use Rattle.call_order.proofs.NumberLemmas.{statement-roll, each-numbers}
 use Rattle.call_order.proofs.StatementLayers.{each, walk-roll, walks-each}
 
 -- an expression with a number that has more than 64 bits

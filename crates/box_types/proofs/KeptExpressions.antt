@@ -32,7 +32,7 @@ use Rattle.box_types.specs.Unknown.{names_step, in_names, is_nothing, unknown_na
 use Rattle.box_types.specs.WrongKind.{is_no_value, no_value}
 use Rattle.box_types.specs.WrongType as T
 use Rattle.box_types.specs.Namings as N
-use Rattle.call_order.proofs.NumberLemmas.{both, numbers_of, numbers-expr, numbers-roll}
+use Rattle.box_types.proofs.ExpressionNumbers.{both, numbers_of, numbers-expr, numbers-roll}
 
 -- what has no lines has none in its parts
 pub none-left : (xs ys : List ℕ) → xs ++ ys ≡ [] → xs ≡ []
