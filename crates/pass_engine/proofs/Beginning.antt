@@ -25,7 +25,8 @@ use Rattle.pass_seats.specs.Seats.{SeatState, start_of}
 use Rattle.pass_seats.specs.Opening.{BlankState, names_of, fresh_sched, IsFresh, AreNewBoxes, AreNewSeats}
 use Rattle.pass_seats.proofs.Lists.{map-at}
 use Rattle.pass_engine.specs.Engines.{EngineState, engine_of, cell_of, IsEngine, IsSeatOf, IsWorker}
-use Rattle.pass_engine.specs.Beginnings.{setting_of, IsNewEngine}
+use Rattle.loose_records.specs.Settings.{setting_of}
+use Rattle.pass_engine.specs.Beginnings.{IsNewEngine}
 use Rattle.pass_engine.proofs.Keeping.{seat_of_any}
 
 -- each of the first numbers is below their count

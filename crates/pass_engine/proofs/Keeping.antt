@@ -1,5 +1,5 @@
 -- What an engine keeps over a call at one of its desks.
-use Rattle.std.proofs.Common.{◌≡◌, ◌≢◌, ℕ, ⊎_elim, List, sym, ap, ◌∙◌, refl, subst, length, set, true}
+use Rattle.std.proofs.Common.{◌≡◌, ◌≢◌, ℕ, ⊎_elim, List, sym, ap, ◌∙◌, refl, subst, set, true}
 use Rattle.std.proofs.Common.{false, Bool, Option, Some, None}
 use Rattle.std.specs.Prelude.{slice_get}
 use Rattle.std.proofs.lemmas.List.{length-set}

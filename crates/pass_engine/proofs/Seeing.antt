@@ -1,5 +1,5 @@
 -- The seats of an engine once each has seen the scheduler's whole list, and the record that they make.
-use Rattle.std.proofs.Common.{◌≡◌, ℕ, List, [], ◌∷◌, ◌++◌, length, map, All, Some, false, refl, sym, ap, ◌∙◌}
+use Rattle.std.proofs.Common.{◌≡◌, ℕ, List, [], ◌∷◌, ◌++◌, map, All, Some, false, refl, sym, ap, ◌∙◌}
 use Rattle.std.proofs.Common.{subst, append_assoc, get_or}
 use Rattle.std.specs.Prelude.{Result, Ok, Err, IfOk, MatchResult, slice_get}
 use Rattle.std.proofs.lemmas.List.{length-map, map-append}

@@ -9,9 +9,10 @@ use Rattle.pass_seats.specs.Names.{Names}
 use Rattle.pass_seats.specs.Seats.{SeatState}
 use Rattle.pass_seats.specs.Items.{ItemState}
 use Rattle.pass_seats.specs.Steps.{Tears}
-use Rattle.pass_seats.specs.Starts.{Issued, IssueRefusedBy, NoneIssued}
-use Rattle.pass_engine.specs.Engines.{IsWorker}
-use Rattle.pass_engine.specs.Calls.{StartMade, StartRefusedBy}
+use Rattle.pass_seats.specs.Slots.{HasStep}
+use Rattle.pass_seats.specs.Starts.{Issued, IssueRefusedBy, NoneIssued, Taken}
+use Rattle.pass_engine.specs.Engines.{EngineState, IsWorker}
+use Rattle.pass_engine.specs.Calls.{StartMade, Started, StartRefusedBy}
 use Rattle.pass_engine.proofs.Workers.{torn_worker, started_worker, saw_worker, quit_worker}
 
 -- what the start at the scheduler's desk and the seat promises
@@ -56,3 +57,18 @@ start_lost cell next seat between after item issued tears = (
     number = tears.number ∙ ap (λ (s : SeatState). s.number) issued.new_is;
   },
 )
+
+-- a pass that a seat has taken has a next step
+abbrev pub TakenGoesOn : Type 0
+TakenGoesOn = (names : Names) (old new : SeatState) (item : ItemState) (pass : Pass) →
+    Taken names old new item pass → HasStep new pass.slot
+
+-- so a pass that was started has one
+pub started_open : TakenGoesOn → (names : Names) (old new : EngineState) (seat after : SeatState)
+    (made : Result (Option Pass) E.EngineRefusal) →
+    IfOk made (λ r. IfSome r (Started names old new seat after)) →
+    IfOk made (λ r. IfSome r (λ (pass : Pass). HasStep after pass.slot))
+started_open law names old new seat after (Ok (Some pass)) some =
+    law names some.made.between after some.made.item pass some.made.taken
+started_open law names old new seat after (Ok None) some = some
+started_open law names old new seat after (Err refusal) some = some

@@ -1,7 +1,7 @@
 -- A step at an engine that nobody has given up.
-use Rattle.std.proofs.Common.{◌≡◌, ℕ, List, sym, ap, ◌∙◌, refl, subst, set, Bool, true, false, Option, Some}
+use Rattle.std.proofs.Common.{◌≡◌, ℕ, List, sym, ap, ◌∙◌, refl, subst, set, false, Option}
 use Rattle.std.proofs.Common.{None}
-use Rattle.std.specs.Prelude.{Result, Ok, Err, IfOk, MatchResult, slice_get}
+use Rattle.std.specs.Prelude.{Result, Ok, Err, IfOk, MatchResult}
 use Rattle.seuss_program.specs.declared.program.Program.{Program}
 use Rattle.seuss_program.specs.declared.state.Value.{Value}
 use Rattle.method_code.specs.declared.method.Method.{Method}
@@ -9,13 +9,15 @@ use Rattle.box_lock.specs.Cells as B
 use Rattle.pass_seats.specs.declared.pass.Progress.{Progress}
 use Rattle.pass_seats.specs.declared.refusal.EngineRefusal as E
 use Rattle.pass_seats.specs.declared.refusal.EngineRefusal.TheVariants as X
-use Rattle.pass_seats.specs.Seats.{SeatState, start_of}
-use Rattle.pass_seats.specs.Steps.{AdvancedAt, DeskRefused, IsSameBox, IsStillBy, SawBox}
+use Rattle.pass_seats.specs.Names.{Names}
+use Rattle.pass_seats.specs.Seats.{IsSeat, SeatState, start_of}
+use Rattle.pass_seats.specs.Slots.{MayGoOn}
+use Rattle.pass_seats.specs.Steps.{AdvancedAt, DeskRefused, IsOpen, IsSameBox, IsStillBy, SawBox}
 use Rattle.pass_seats.proofs.Lists.{none_some, set-again}
-use Rattle.pass_engine.specs.Engines.{EngineState, IsWorker}
-use Rattle.pass_engine.specs.Calls.{IsAt, ChangesBox, StepMade, StepRefused, given_up_after}
+use Rattle.pass_engine.specs.Engines.{EngineState, IsSeatOf, IsWorker}
+use Rattle.pass_engine.specs.Calls.{IsAt, StepMade, StepRefused, given_up_after}
 use Rattle.pass_engine.proofs.Workers.{torn_worker, quit_worker, placed_worker, passed_worker}
-use Rattle.pass_engine.proofs.Keeping.{with_box, with_cells, not_both}
+use Rattle.pass_engine.proofs.Keeping.{with_box, with_cells, not_both, whole_seat}
 
 -- what the step at the desk of a box promises
 module _ (program : Program) (code : List Method) (first : ℕ → List Value) (cell next : B.CellState)
@@ -113,3 +115,21 @@ module _ (program : Program) (code : List Method) (first : ℕ → List Value) (
     saw = subst (λ (n : ℕ). SawBox cell.journal.log n seat after) at.number refused.1;
     same = same_box still;
   }
+
+-- after a step a pass of a seat has another one, or it is over
+abbrev pub StepsGoOn : Type 0
+StepsGoOn = (names : Names) (program : Program) (code : List Method) (first : ℕ → List Value)
+    (cell next : B.CellState) (old new : SeatState) (slot b : ℕ) (progress : Progress) → IsSeat names old →
+    old.torn ≡ false → IsOpen old slot b → AdvancedAt program code first cell next old new slot progress →
+    MayGoOn progress new slot
+
+-- so it is after a step of the engine
+pub step_next : StepsGoOn → (names : Names) (program : Program) (code : List Method)
+    (first : ℕ → List Value) (old new : EngineState) (seat after : SeatState) (slot : ℕ)
+    (made : Result Progress E.EngineRefusal) → IsSeat names seat → IsSeatOf old seat →
+    IfOk made (StepMade program code first old new seat after slot) →
+    IfOk made (λ progress. MayGoOn progress after slot)
+step_next law names program code first old new seat after slot (Ok progress) kept of stepped =
+    law names program code first stepped.cell stepped.stepped seat after slot stepped.b progress kept
+    (whole_seat old seat stepped.engine.going of) stepped.at.going stepped.step
+step_next law names program code first old new seat after slot (Err refusal) kept of stepped = stepped

@@ -1,24 +1,11 @@
 -- How an engine for one thread begins.
 use Rattle.std.specs.Prelude.{◌≡◌, ℕ, List, length, None, Some, slice_get}
-use Rattle.seuss_base.specs.Tables.{Table}
-use Rattle.seuss_program.specs.declared.program.Program.{Program}
 use Rattle.seuss_program.specs.Programs.{vars_of}
-use Rattle.compat_scheduler.specs.Settings.{one_slot_each}
-use Rattle.loose_records.specs.Settings.{RunSetting}
 use Rattle.box_lock.specs.Cells as B
 use Rattle.pass_seats.specs.Names.{Names, table_at}
 use Rattle.pass_seats.specs.Seats.{SeatState}
 use Rattle.pass_seats.specs.Opening.{fresh_cell, fresh_sched, IsFresh}
 use Rattle.pass_engine.specs.Engines.{EngineState}
-
--- a program, its scheduler with one slot for each action, these levels and rounds, and the budget of each
--- pass
-abbrev pub setting_of : Program → Table → ℕ → ℕ → RunSetting
-setting_of p levels rounds budget = record {
-  program = p;
-  scheduler = one_slot_each levels (length p.actions) rounds;
-  budget = budget;
-}
 
 -- the cell of a box of an engine at its beginning
 abbrev pub cell_at : Names → ℕ → B.CellState

@@ -8,10 +8,11 @@ ghost use Rattle.method_code.specs.Plans.{AreMadeFrom};
 ghost use Rattle.pass_seats.specs.Names.{AreNames};
 ghost use Rattle.pass_seats.specs.Seats.{SeatState};
 ghost use Rattle.pass_seats.specs.Opening.{AreNewSeats, IsFresh, names_of};
-ghost use Rattle.pass_seats.specs.Steps.{IsOpen};
+ghost use Rattle.pass_seats.specs.Slots.{HasStep, MayGoOn};
 ghost use Rattle.pass_seats.specs.Finishes.{IsOver};
 ghost use Rattle.pass_engine.specs.Engines.{IsEngine, IsSeatOf, StaysGivenUp};
-ghost use Rattle.pass_engine.specs.Beginnings.{AreNewWorkers, IsNewEngine, setting_of};
+ghost use Rattle.loose_records.specs.Settings.{setting_of};
+ghost use Rattle.pass_engine.specs.Beginnings.{AreNewWorkers, IsNewEngine};
 ghost use Rattle.pass_engine.specs.Calls.{Started, NoneStarted, StartRefused, StepMade, StepRefused};
 ghost use Rattle.pass_engine.specs.Calls.{FinishMade, FinishRefused, StandingTold, StandingRefused, GaveUp};
 
@@ -19,6 +20,7 @@ use crate::WorkerSeat;
 use crate::going::first_of;
 use compat_scheduler::{FinishVerdict, SchedCore};
 use method_code::{Code, Plan};
+use pass_seats::laws::passes_go_on;
 use pass_seats::{
     BoxDesk, EngineBlank, EngineNames, EngineRefusal, Pass, Progress, SchedDesk, SeatCore, Workshop,
 };
@@ -125,8 +127,8 @@ impl<'a, N: EngineNames> StillEngine<'a, N> {
         let _budget = &self.budget;
     }
 
-    /// Starts the next pass and gives it to a seat, which has then seen the scheduler's whole list. None
-    /// comes where no pass can start. `GivenUp` comes where the engine was given up before, `Memory` where
+    /// Starts the next pass and gives it to a seat, which has then seen the scheduler's whole list. The pass
+    /// has a next step. None comes where no pass can start. `GivenUp` comes where the engine was given up before, `Memory` where
     /// memory was refused in this call, which gives the engine up, and `Worn` where the stamp of the start
     /// would be 2^63.
     pub fn start(
@@ -138,17 +140,20 @@ impl<'a, N: EngineNames> StillEngine<'a, N> {
         ensures some { IfOk result (λ r. IfSome r (Started N.names self.old self.new seat.old seat.new)) }
         ensures none { IfOk result
             (λ r. MatchOption r (NoneStarted self.old self.new seat.old seat.new) (λ _. ℕ)) }
+        ensures open { IfOk result (λ r. IfSome r (λ pass. HasStep seat.new pass.slot)) }
         ensures refused { MatchResult result (λ _. ℕ) (StartRefused self.old self.new seat.old seat.new) }
         ensures seat { IsSeatOf self.new seat.new }
         ensures others { StaysGivenUp self.old self.new }
     {
+        passes_go_on();
         match self.given_up() {
             Some(by) => Err(EngineRefusal::GivenUp(by)),
             None => self.start_going(alloc, seat),
         }
     }
 
-    /// Makes one step of a pass of a seat that isn't over, on the box at which it is. `GivenUp` comes where
+    /// Makes one step of a pass of a seat that isn't over, on the box at which it is. The pass then has a next
+    /// step, or is over and may be finished, as the answer says. `GivenUp` comes where
     /// the engine was given up before, `Memory` where memory was refused in this call, which gives the
     /// engine up, and `Worn` where the stamp of the step would be 2^63.
     pub fn advance(
@@ -158,16 +163,19 @@ impl<'a, N: EngineNames> StillEngine<'a, N> {
         pass: &mut Pass,
     ) -> Result<Progress, EngineRefusal>
         requires of { IsSeatOf self.old seat.old }
-        requires open { (b : ℕ) × IsOpen seat.old pass.old.slot b }
+        requires open { HasStep seat.old pass.old.slot }
         ensures made { IfOk result
             (λ progress. StepMade N.names.setting.program N.code N.first self.old self.new
             seat.old seat.new pass.old.slot progress) }
+        ensures next { IfOk result (λ progress. MayGoOn progress seat.new pass.old.slot) }
         ensures pass { pass.new ≡ pass.old }
         ensures refused { MatchResult result (λ _. ℕ)
             (StepRefused self.old self.new seat.old seat.new pass.old.slot) }
         ensures seat { IsSeatOf self.new seat.new }
         ensures others { StaysGivenUp self.old self.new }
     {
+        passes_go_on();
+        seat.facts();
         match self.given_up() {
             Some(by) => Err(EngineRefusal::GivenUp(by)),
             None => self.advance_going(alloc, seat, pass.slot()),

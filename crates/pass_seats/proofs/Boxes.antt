@@ -1,6 +1,6 @@
 -- The boxes at which a pass is and waits are boxes of its program.
-use Rattle.std.proofs.Common.{◌≡◌, ℕ, zero, suc, ◌-◌, ◌<◌, List, [], ◌∷◌, ◌++◌, All, map, length, take, Bool, true}
-use Rattle.std.proofs.Common.{false, ◌&&◌, sym, ap, ◌∙◌, refl, subst, arith, Option, Some, None, IsTrue}
+use Rattle.std.proofs.Common.{◌≡◌, ℕ, zero, suc, ◌-◌, ◌<◌, List, [], ◌∷◌, All, length, Bool, true}
+use Rattle.std.proofs.Common.{false, ◌&&◌, refl, subst, arith, Option, Some, None, IsTrue}
 use Rattle.std.specs.Prelude.{slice_get, slice_index_or, option_and_then}
 use Rattle.std.proofs.lemmas.Option.{slice_get_within}
 use Rattle.std.proofs.lemmas.List.Elements.{All-push, All-take}
@@ -13,7 +13,7 @@ use Rattle.seuss_program.specs.declared.tree.Proc.{Proc}
 use Rattle.seuss_program.specs.declared.program.Program.{Program}
 use Rattle.seuss_program.specs.declared.program.BoxInfo.{BoxInfo}
 use Rattle.seuss_program.specs.declared.program.ActionInfo.{ActionInfo}
-use Rattle.seuss_program.specs.Programs.{cat_of, procedure_of, target_of, given_in}
+use Rattle.seuss_program.specs.Programs.{target_of, given_in}
 use Rattle.seuss_program.specs.Keeping.{Keeps, KeepsBox, given_fit, is_box_of}
 use Rattle.method_code.specs.declared.frame.Frame.{Frame}
 use Rattle.method_code.specs.declared.frame.End.{End}
@@ -24,7 +24,7 @@ use Rattle.method_code.specs.Chains.{Turned, Next, Over, turned, accepted, rejec
 use Rattle.method_code.proofs.Places.{get_all}
 use Rattle.method_code.proofs.ActionLemmas.{action_is}
 use Rattle.pass_seats.specs.Passes.{IsWithin}
-use Rattle.pass_seats.proofs.Lists.{none_some, some_same, read-at}
+use Rattle.pass_seats.proofs.Lists.{none_some, some_same}
 
 -- a box of a cat is there
 box_there : (boxes : List BoxInfo) (n : ℕ) (o : Option BoxInfo) (name : Ref) → slice_get boxes n ≡ o →

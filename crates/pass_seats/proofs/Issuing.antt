@@ -1,5 +1,5 @@
 -- The action of a started ticket.
-use Rattle.std.proofs.Common.{◌≡◌, ℕ, zero, suc, ◌+◌, ◌*◌, ◌%◌, ◌<◌, List, [], ◌∷◌, ◌++◌, map, length, All, arith, sym, subst}
+use Rattle.std.proofs.Common.{◌≡◌, ℕ, zero, suc, ◌*◌, ◌<◌, List, length, All, arith, sym, subst}
 use Rattle.std.specs.Prelude.{Contains}
 use Rattle.std.proofs.lemmas.Nat.{mod_below}
 use Rattle.seuss_program.specs.declared.state.Value.{Value}
@@ -9,8 +9,7 @@ use Rattle.compat_scheduler.specs.Settings.{Setting, copies, action_of}
 use Rattle.compat_scheduler.specs.Machines.{Machine, slot_of}
 use Rattle.compat_scheduler.specs.Runs.{Event, IsRun}
 use Rattle.compat_scheduler.specs.Runs.Event.{Start as Starts}
-use Rattle.step_journal.specs.Histories.{Log, entries_of}
-use Rattle.loose_records.specs.declared.record.SchedEntry.{SchedEntry}
+use Rattle.step_journal.specs.Histories.{entries_of}
 use Rattle.loose_records.specs.declared.record.SchedEntry.TheVariants.{Start}
 use Rattle.loose_records.specs.Entries.{event_of}
 use Rattle.round_ledger.specs.Cells.{CellState, log_events}

@@ -6,3 +6,4 @@ pub mod Placing
 pub mod Passing
 pub mod Opening
 pub mod Issuing
+pub mod Slots

@@ -1,7 +1,7 @@
 -- Lists that change at one place, and what stands in them.
 use Rattle.std.proofs.Common.{◌≡◌, ◌≢◌, ℕ, zero, suc, ◌+◌, ◌<◌, ◌≤◌, ◌⊎◌, inl, inr, ⊎_elim, List, [], ◌∷◌, ◌++◌}
 use Rattle.std.proofs.Common.{sym, ap, ◌∙◌, refl, subst, length, arith, map, set, Bool, cond, count_by}
-use Rattle.std.specs.Prelude.{Option, Some, None, slice_get, slice_index_or, MatchOption, IfSome, max, All, Contains}
+use Rattle.std.specs.Prelude.{Option, Some, None, slice_get, slice_index_or, MatchOption, IfSome, All, Contains}
 use Rattle.std.specs.List.{filter_map, cons_option}
 use Rattle.std.proofs.lemmas.Option.{slice_get_within, get_or_from_slice_get, slice_get-get_or}
 use Rattle.std.proofs.lemmas.List.Sums.{sum_by-cons}

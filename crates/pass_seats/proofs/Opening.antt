@@ -1,11 +1,10 @@
 -- Seats that were just made, and started passes.
-use Rattle.std.proofs.Common.{◌≡◌, ℕ, ◌+◌, ◌*◌, ◌%◌, ◌<◌, ◌≤◌, ◌⊎◌, ⊎_elim, List, [], ◌∷◌, ◌++◌, sym, ap, ◌∙◌, refl}
-use Rattle.std.proofs.Common.{append-nil, length-append, ◌≢◌, subst, length, arith, map, set, true, false, Some, None, All, count_by}
+use Rattle.std.proofs.Common.{◌≡◌, ℕ, ◌+◌, ◌<◌, ◌≤◌, ◌⊎◌, ⊎_elim, List, [], ◌∷◌, ◌++◌, sym, ap, ◌∙◌, refl}
+use Rattle.std.proofs.Common.{append-nil, length-append, ◌≢◌, subst, length, arith, set, true, false, Some, None, count_by}
 use Rattle.std.specs.Prelude.{slice_get}
 use Rattle.std.proofs.lemmas.List.{length-map}
 use Rattle.std.proofs.lemmas.Option.{slice_get_within}
 use Rattle.std.proofs.lemmas.Bool.{cases_lt}
-use Rattle.std.proofs.lemmas.Bool.Decides.{nat_tests}
 use Rattle.step_journal.specs.Histories.{Log}
 use Rattle.step_journal.specs.Journals.{NoteState, ShareState, IsPair}
 use Rattle.loose_records.specs.declared.record.BoxEntry.{BoxEntry}

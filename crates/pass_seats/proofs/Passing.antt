@@ -1,6 +1,6 @@
 -- What a seat keeps of its passes when it takes one, and when one of them finishes.
-use Rattle.std.proofs.Common.{◌≡◌, ◌≢◌, ℕ, ◌+◌, ◌<◌, ◌^◌, ◌⊎◌, ⊎_elim, List, [], ◌∷◌, ◌++◌, sym, ap, ◌∙◌, refl, subst}
-use Rattle.std.proofs.Common.{length, arith, map, set, Bool, true, false, ◌==◌, Option, Some, None, All, count_by}
+use Rattle.std.proofs.Common.{◌≡◌, ◌≢◌, ℕ, ◌+◌, ◌<◌, ◌^◌, ⊎_elim, List, [], ◌∷◌, ◌++◌, sym, ap, ◌∙◌, refl, subst}
+use Rattle.std.proofs.Common.{length, arith, set, Bool, true, false, ◌==◌, Option, Some, None}
 use Rattle.std.specs.Prelude.{slice_get, Contains}
 use Rattle.std.proofs.lemmas.List.Elements.{All-nil, All-cons}
 use Rattle.std.proofs.lemmas.List.Sums.{sum_by_push}
@@ -11,25 +11,21 @@ use Rattle.seuss_program.specs.declared.state.Value.{Value}
 use Rattle.method_code.specs.declared.method.Method.{Method}
 use Rattle.method_code.specs.declared.activation.Activation.{Activation}
 use Rattle.method_code.specs.Chains.{begun, beginning}
-use Rattle.method_code.specs.Records.{LeadsTo}
-use Rattle.compat_scheduler.specs.declared.ticket.Ticket.{Ticket}
 use Rattle.compat_scheduler.specs.declared.ticket.FinishVerdict.{FinishVerdict}
 use Rattle.step_journal.specs.Histories.{Log, entries_of, own_entries, IsNoteOf}
 use Rattle.step_journal.specs.Journals.{NoteState, ShareState, IsPair}
 use Rattle.loose_records.specs.declared.record.BoxEntry.{BoxEntry}
 use Rattle.loose_records.specs.declared.record.SchedEntry.{SchedEntry}
 use Rattle.loose_records.specs.declared.record.SchedEntry.TheVariants.{Start, Finish}
-use Rattle.loose_records.specs.declared.record.Claim.{Claim}
 use Rattle.loose_records.specs.Entries.{AreStamps}
-use Rattle.loose_records.specs.Turns.{clock_of}
 use Rattle.pass_seats.proofs.Lists.{at-append, push-cases, set-here, set-other, at-within}
 use Rattle.pass_seats.specs.declared.pass.Done.{Done}
 use Rattle.pass_seats.specs.declared.pass.SeatPass.{SeatPass}
 use Rattle.pass_seats.specs.Names.{Names, AreNames}
-use Rattle.pass_seats.specs.Passes.{IsSeatPass, IsClaim, IsWithin, ComesTo, HasDone, AreEarly, stamps_of, steps_of}
+use Rattle.pass_seats.specs.Passes.{IsSeatPass, IsWithin, ComesTo, HasDone, steps_of}
 use Rattle.pass_seats.specs.Seats.{SeatState, IsSeat, IsWhole, IsClaimed, is_done, is_some, logs_of}
 use Rattle.pass_seats.specs.Items.{ItemState, IsStarted}
-use Rattle.pass_seats.specs.Finishes.{PassFinished, Finished, PassSaw, FinishWorn, pass_sees}
+use Rattle.pass_seats.specs.Finishes.{PassFinished, Finished, PassSaw, FinishWorn}
 use Rattle.round_ledger.specs.Cells.{CellState, next_stamp}
 use Rattle.pass_seats.proofs.Placing.{with_passes}
 use Rattle.pass_seats.proofs.Lists.{none_some, some_same, nil_from_length, read-at, set-cases, count-set, bit}

@@ -1,6 +1,6 @@
 -- What a seat keeps over a step of one of its passes, over looks, and when it gives the engine up.
-use Rattle.std.proofs.Common.{◌≡◌, ◌≢◌, ℕ, ◌+◌, ◌<◌, ◌^◌, ◌⊎◌, ⊎_elim, List, [], ◌∷◌, ◌++◌, sym, ap, ◌∙◌, refl, subst, length}
-use Rattle.std.proofs.Common.{arith, map, set, Bool, true, false, ◌==◌, Option, Some, None}
+use Rattle.std.proofs.Common.{◌≡◌, ◌≢◌, ℕ, ◌^◌, ◌⊎◌, ⊎_elim, List, [], ◌∷◌, ◌++◌, sym, ap, ◌∙◌, refl, subst, length}
+use Rattle.std.proofs.Common.{arith, set, Bool, true, false, ◌==◌, Option, Some, None}
 use Rattle.std.specs.Prelude.{slice_get, MatchOption}
 use Rattle.std.proofs.lemmas.List.{length-set}
 use Rattle.std.proofs.lemmas.Bool.Decides.{nat_tests}
@@ -15,7 +15,7 @@ use Rattle.loose_records.specs.declared.record.BoxEntry.{BoxEntry}
 use Rattle.loose_records.specs.declared.record.SchedEntry.{SchedEntry}
 use Rattle.pass_seats.proofs.Lists.{at-map}
 use Rattle.quit_word.specs.Seats as Q
-use Rattle.box_lock.specs.Cells.{CellState, IsHistory, Sees, next_stamp}
+use Rattle.box_lock.specs.Cells.{CellState, Sees, next_stamp}
 use Rattle.pass_seats.specs.declared.pass.Place.{Place}
 use Rattle.pass_seats.specs.declared.pass.Progress as P
 use Rattle.pass_seats.specs.declared.pass.SeatPass.{SeatPass}
@@ -23,7 +23,7 @@ use Rattle.pass_seats.specs.Names.{Names, AreNames}
 use Rattle.pass_seats.specs.Desks.{HasSeen}
 use Rattle.pass_seats.specs.Passes.{IsWithin, log_at}
 use Rattle.pass_seats.specs.Seats.{SeatState, IsSeat, IsWhole, IsPlace, IsClaimed, logs_of}
-use Rattle.pass_seats.specs.Steps.{Steps, Stepped, IsStillPlace, Advanced, AdvancedAt, IsWorn, SawBox}
+use Rattle.pass_seats.specs.Steps.{Steps, Stepped, IsStillPlace, AdvancedAt, IsWorn, SawBox}
 use Rattle.pass_seats.proofs.Lists.{at-prefix, read-at, set-cases, set-again}
 use Rattle.pass_seats.proofs.Owns.{own-within, own-push}
 use Rattle.pass_seats.proofs.Boxes.{turned_within}

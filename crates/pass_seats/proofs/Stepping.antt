@@ -1,9 +1,9 @@
 -- What a seat keeps of its passes when one of them makes a step.
-use Rattle.std.proofs.Common.{◌≡◌, ◌≢◌, ℕ, zero, suc, ◌+◌, ◌<◌, ◌≤◌, ◌^◌, ◌⊎◌, inl, inr, ⊎_elim, List, [], ◌∷◌, ◌++◌}
-use Rattle.std.proofs.Common.{sym, ap, ◌∙◌, refl, subst, length, length-append, arith, map, set, Bool, true, false}
-use Rattle.std.proofs.Common.{◌==◌, Option, Some, None, All, if◌then◌else◌}
-use Rattle.std.specs.Prelude.{slice_get, max, Contains, option_map}
-use Rattle.std.specs.List.{filter_map, cons_option}
+use Rattle.std.proofs.Common.{◌≡◌, ◌≢◌, ℕ, zero, suc, ◌<◌, ◌≤◌, ◌⊎◌, inl, inr, ⊎_elim, List, [], ◌∷◌, ◌++◌}
+use Rattle.std.proofs.Common.{sym, ap, ◌∙◌, refl, subst, length, arith, set, Bool, true, false}
+use Rattle.std.proofs.Common.{◌==◌, Option, Some, None, if◌then◌else◌}
+use Rattle.std.specs.Prelude.{slice_get, option_map}
+use Rattle.std.specs.List.{cons_option}
 use Rattle.std.proofs.lemmas.Option.{slice_get_within}
 use Rattle.std.proofs.lemmas.List.{map-append}
 use Rattle.std.proofs.lemmas.List.Elements.{filter_map-append}
@@ -16,7 +16,7 @@ use Rattle.method_code.specs.declared.frame.End.{End}
 use Rattle.method_code.specs.declared.activation.Activation.{Activation}
 use Rattle.method_code.specs.Chains.{Turned, Next, Over, turned, begun}
 use Rattle.method_code.specs.Kinds.{calls_early}
-use Rattle.method_code.specs.Records.{Recorded, LeadsTo, ChainsTo, IsStepFrom}
+use Rattle.method_code.specs.Records.{Recorded, LeadsTo, IsStepFrom}
 use Rattle.method_code.proofs.RecordLemmas.{leads_on, leads_over}
 use Rattle.step_journal.specs.Histories.{Log, IsNoteOf}
 use Rattle.loose_records.specs.declared.record.BoxEntry.{BoxEntry}
@@ -25,13 +25,13 @@ use Rattle.loose_records.specs.Entries.{step_of, AreStamps}
 use Rattle.loose_records.specs.Turns.{clock_of}
 use Rattle.pass_seats.proofs.Lists.{at-append, at-push, push-cases, set-here, set-other, at-map}
 use Rattle.loose_records.proofs.Clocks.{stamps_after, clock_push}
-use Rattle.box_lock.specs.Cells.{log_stamps, next_stamp}
+use Rattle.box_lock.specs.Cells.{log_stamps}
 use Rattle.pass_seats.specs.declared.pass.Done.{Done}
 use Rattle.pass_seats.specs.declared.pass.Place.{Place}
 use Rattle.pass_seats.specs.declared.pass.Progress as P
 use Rattle.pass_seats.specs.declared.pass.Progress.TheVariants as V
 use Rattle.pass_seats.specs.declared.pass.SeatPass.{SeatPass}
-use Rattle.pass_seats.specs.Names.{Names, AreNames}
+use Rattle.pass_seats.specs.Names.{Names}
 use Rattle.pass_seats.specs.Passes.{IsSeatPass, IsClaim, IsWithin, ComesTo, CommitsSoFar, AreEarly, HasDone}
 use Rattle.pass_seats.specs.Passes.{log_at, step_at, steps_of, stamps_of}
 use Rattle.pass_seats.specs.Seats.{SeatState, IsWhole, IsClaimed, logs_of, is_done}
@@ -39,7 +39,6 @@ use Rattle.pass_seats.specs.Steps.{Steps, GoesOn, moved, commit_after}
 use Rattle.pass_seats.proofs.Lists.{none_some, some_same, at-prefix, read-at, set-cases, count-set, bit}
 use Rattle.pass_seats.proofs.Lists.{filter_map-same, filter_map-full}
 use Rattle.pass_seats.proofs.Owns.{own-within}
-use Rattle.pass_seats.proofs.Boxes.{turned_within}
 
 -- what was seen at the box of a place that has changed
 pub log-here : (places : List Place) (b : ℕ) (p q : Place) → slice_get places b ≡ Some q →

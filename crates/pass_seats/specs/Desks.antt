@@ -1,5 +1,5 @@
 -- What the desks keep: a cell with a view of the quit word, at which whoever holds the desk looks.
-use Rattle.std.specs.Prelude.{◌≡◌, ℕ, Bool, true, List, [], Option, Some, sum_by}
+use Rattle.std.specs.Prelude.{◌≡◌, ℕ, true, [], Option, Some, sum_by}
 use Rattle.quit_word.specs.Seats.{FirstState, ViewState}
 use Rattle.box_lock.specs.Cells as B
 use Rattle.round_ledger.specs.Cells as S

@@ -1,5 +1,5 @@
 -- What a finish of a pass does: to the scheduler, to the pass and to its seat; and whether a run goes on.
-use Rattle.std.specs.Prelude.{◌≡◌, ℕ, ◌+◌, ◌^◌, true, false, List, [], ◌∷◌, ◌++◌, Some, None, slice_get, slice_set}
+use Rattle.std.specs.Prelude.{◌≡◌, ℕ, ◌+◌, ◌^◌, true, false, [], ◌∷◌, ◌++◌, Some, None, slice_get, slice_set}
 use Rattle.seuss_base.specs.declared.outcome.PassEnd.{PassEnd}
 use Rattle.compat_scheduler.specs.declared.ticket.FinishVerdict.{FinishVerdict}
 use Rattle.compat_scheduler.specs.Finishes.{Finishes}

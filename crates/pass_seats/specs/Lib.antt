@@ -7,3 +7,4 @@ pub mod Steps
 pub mod Starts
 pub mod Finishes
 pub mod Opening
+pub mod Slots

@@ -1,14 +1,12 @@
 -- What the type of an engine names.
 use Rattle.std.specs.Prelude.{◌≡◌, ℕ, ◌<◌, ◌≤◌, List, [], All, length, slice_index_or}
 use Rattle.atomic_table.specs.Seated.{TableId}
-use Rattle.seuss_program.specs.declared.program.Program.{Program}
 use Rattle.seuss_program.specs.declared.state.State.{State}
 use Rattle.seuss_program.specs.declared.state.Value.{Value}
 use Rattle.seuss_program.specs.Programs.{vars_of}
 use Rattle.seuss_program.specs.Keeping.{Keeps, HasForm}
 use Rattle.method_code.specs.declared.method.Method.{Method}
 use Rattle.method_code.specs.Codes.{compiled}
-use Rattle.compat_scheduler.specs.Settings.{Setting}
 use Rattle.loose_records.specs.Settings.{RunSetting}
 
 -- the tables of the boxes' journals, of the scheduler's and of the quit word, how many seats there are, what the

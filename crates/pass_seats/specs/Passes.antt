@@ -13,7 +13,6 @@ use Rattle.method_code.specs.Records.{Recorded, ChainsTo, LeadsTo}
 use Rattle.step_journal.specs.Histories.{Log, entries_of, own_entries}
 use Rattle.step_journal.specs.Journals.{IsPair}
 use Rattle.loose_records.specs.declared.record.BoxEntry.{BoxEntry}
-use Rattle.loose_records.specs.declared.record.SchedEntry.{SchedEntry}
 use Rattle.loose_records.specs.declared.record.SchedEntry.TheVariants.{Start, Finish}
 use Rattle.loose_records.specs.declared.record.Claim.{Claim}
 use Rattle.loose_records.specs.Entries.{step_of, AreStamps}

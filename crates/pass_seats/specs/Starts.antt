@@ -1,5 +1,5 @@
 -- What a start does: to the scheduler, to the seat that makes its entry, and to the seat that takes the pass.
-use Rattle.std.specs.Prelude.{◌≡◌, ℕ, ◌+◌, ◌^◌, true, false, List, [], ◌∷◌, ◌++◌, length, Some, None}
+use Rattle.std.specs.Prelude.{◌≡◌, ◌+◌, ◌^◌, true, false, [], ◌∷◌, ◌++◌, length, None}
 use Rattle.method_code.specs.Chains.{beginning}
 use Rattle.compat_scheduler.specs.Starts.{Starts, NoneStarts}
 use Rattle.compat_scheduler.specs.Runs.{IsRun}

@@ -14,7 +14,6 @@ use Rattle.step_journal.specs.declared.refusal.CellRefusal.TheVariants as C
 use Rattle.step_journal.specs.Histories.{Log, own_entries, IsNoteOf}
 use Rattle.step_journal.specs.Journals.{IsPair, longer}
 use Rattle.loose_records.specs.declared.record.BoxEntry.{BoxEntry}
-use Rattle.loose_records.specs.declared.record.Claim.{Claim}
 use Rattle.loose_records.specs.Entries.{gives}
 use Rattle.box_lock.specs.Cells.{CellState, IsHistory, Sees, next_stamp}
 use Rattle.pass_seats.specs.declared.pass.Place.{Place}

@@ -5,6 +5,7 @@
 mod blank;
 mod desks;
 mod item;
+pub mod laws;
 mod making;
 mod names;
 mod parts;

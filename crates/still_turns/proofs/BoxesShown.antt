@@ -1,5 +1,5 @@
 -- The boxes that cells show, before and after a step.
-use Rattle.std.proofs.Common.{◌≡◌, ℕ, ◌+◌, ◌<◌, ◌⊎◌, inl, inr, List, [], ◌∷◌, ◌++◌, map, length, refl, sym, ap, ◌∙◌}
+use Rattle.std.proofs.Common.{◌≡◌, ℕ, ◌<◌, ◌⊎◌, inl, inr, List, [], ◌∷◌, ◌++◌, map, length, refl, sym, ap, ◌∙◌}
 use Rattle.std.proofs.Common.{Some, None, slice_get, subst, arith}
 use Rattle.std.specs.Prelude.{slice_set, slice_index_or, Option, option_map}
 use Rattle.std.proofs.lemmas.Bool.{cases_eq}

@@ -1,5 +1,5 @@
 -- What a worker was told of the end of the run.
-use Rattle.std.proofs.Common.{◌≡◌, ℕ, true, false, refl, ap}
+use Rattle.std.proofs.Common.{true, false, refl, ap}
 use Rattle.std.specs.Prelude.{◌↔◌, IsTrue}
 use Rattle.round_ledger.specs.declared.standing.Standing.TheVariants as V
 use Rattle.round_ledger.specs.declared.standing.Standing.{Standing}

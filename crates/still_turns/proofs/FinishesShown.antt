@@ -1,11 +1,9 @@
 -- A finish of the engine is a finish of the run that it shows.
-use Rattle.std.proofs.Common.{◌≡◌, ℕ, ◌+◌, ◌<◌, List, [], ◌∷◌, ◌++◌, map, length, refl, sym, ap, ◌∙◌, Some, None, slice_get}
+use Rattle.std.proofs.Common.{◌≡◌, ℕ, ◌+◌, List, [], ◌∷◌, ◌++◌, length, refl, sym, ap, ◌∙◌, Some, None, slice_get}
 use Rattle.std.proofs.Common.{subst, arith}
 use Rattle.std.specs.Prelude.{slice_set, Option, max}
 use Rattle.std.proofs.lemmas.Option.{same_Some, slice_get_within}
 use Rattle.seuss_base.specs.declared.outcome.PassEnd.{PassEnd}
-use Rattle.method_code.specs.Kinds.{calls_early}
-use Rattle.method_code.specs.Records.{Recorded}
 use Rattle.compat_scheduler.specs.declared.ticket.Ticket.{Ticket}
 use Rattle.compat_scheduler.specs.declared.ticket.FinishVerdict.{FinishVerdict}
 use Rattle.compat_scheduler.specs.Settings.{Setting}
@@ -17,10 +15,9 @@ use Rattle.loose_records.specs.declared.record.PassRecord.{PassRecord}
 use Rattle.loose_records.specs.declared.record.Record.{Record}
 use Rattle.loose_records.specs.declared.record.SchedEntry.{SchedEntry}
 use Rattle.loose_records.specs.declared.record.SchedEntry.TheVariants as S
-use Rattle.loose_records.specs.Entries.{claimed, sched_stamps}
+use Rattle.loose_records.specs.Entries.{sched_stamps}
 use Rattle.loose_records.specs.Turns.{clock_of}
 use Rattle.box_lock.specs.Cells as B
-use Rattle.round_ledger.specs.Cells as L
 use Rattle.pass_seats.specs.declared.pass.Done.{Done}
 use Rattle.pass_seats.specs.declared.pass.SeatPass.{SeatPass}
 use Rattle.pass_seats.specs.Names.{Names}
@@ -36,7 +33,7 @@ use Rattle.turn_runs.specs.RunTurns.{EndsPass, GoesOn}
 use Rattle.turn_runs.proofs.ListLemmas.{set-here}
 use Rattle.still_turns.specs.declared.hand.InHand.{InHand}
 use Rattle.still_turns.specs.declared.hand.InHand.TheVariants as H
-use Rattle.still_turns.specs.Shown.{Shows, ShowsBoxes, ShowsSched, ShowsTurn, IsShown, IsSlot, IsTold, EndsAt}
+use Rattle.still_turns.specs.Shown.{Shows, ShowsBoxes, ShowsTurn, IsShown, IsSlot, IsTold, EndsAt}
 use Rattle.still_turns.specs.Shown.{IsCommitSoFar}
 use Rattle.still_turns.proofs.BoxesShown.{entries_push}
 use Rattle.still_turns.proofs.PassesShown.{passes_set}

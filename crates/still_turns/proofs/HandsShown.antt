@@ -1,5 +1,5 @@
 -- The seats, and what their workers have in hand, after one worker's turn.
-use Rattle.std.proofs.Common.{◌≡◌, ℕ, ◌⊎◌, inl, inr, false, List, length, refl, sym, ap, ◌∙◌, Some, slice_get, subst}
+use Rattle.std.proofs.Common.{◌≡◌, ℕ, ◌⊎◌, inl, inr, false, List, sym, ap, ◌∙◌, Some, slice_get, subst}
 use Rattle.std.specs.Prelude.{slice_set, Option}
 use Rattle.std.proofs.lemmas.List.{length-set}
 use Rattle.pass_seats.specs.Seats.{SeatState}

@@ -1,5 +1,5 @@
 -- The passes that are shown, after one of them has changed, or one more was given.
-use Rattle.std.proofs.Common.{◌≡◌, ℕ, ◌+◌, ◌<◌, ◌⊎◌, inl, inr, List, [], ◌∷◌, ◌++◌, length, refl, sym, ap, ◌∙◌, Some}
+use Rattle.std.proofs.Common.{◌≡◌, ℕ, ◌<◌, ◌⊎◌, inl, inr, List, [], ◌∷◌, ◌++◌, length, refl, sym, ap, ◌∙◌, Some}
 use Rattle.std.proofs.Common.{slice_get, subst, arith}
 use Rattle.std.specs.Prelude.{slice_set}
 use Rattle.std.proofs.lemmas.Option.{slice_get_within}
@@ -9,7 +9,6 @@ use Rattle.loose_records.specs.declared.record.PassRecord.{PassRecord}
 use Rattle.loose_records.specs.declared.record.Record.{Record}
 use Rattle.pass_seats.specs.declared.pass.SeatPass.{SeatPass}
 use Rattle.pass_seats.specs.Seats.{SeatState}
-use Rattle.pass_gather.specs.Given.{given_of}
 use Rattle.turn_runs.proofs.ListLemmas.{set-other, at-append}
 use Rattle.still_turns.specs.Shown.{IsShown, IsSlot, ShowPasses}
 use Rattle.still_turns.proofs.ListPlaces.{given_set}

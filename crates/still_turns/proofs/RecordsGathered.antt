@@ -1,9 +1,8 @@
 -- The record that is gathered from an engine is the one that it shows.
-use Rattle.std.proofs.Common.{◌≡◌, ℕ, ◌+◌, ◌<◌, List, [], ◌∷◌, map, length, refl, sym, ap, ◌∙◌, Some, None, slice_get, subst}
+use Rattle.std.proofs.Common.{◌≡◌, ℕ, List, [], ◌∷◌, map, length, refl, sym, ap, ◌∙◌, Some, slice_get, subst}
 use Rattle.std.specs.Prelude.{Option}
 use Rattle.std.proofs.lemmas.Option.{same_Some}
-use Rattle.seuss_base.specs.declared.outcome.PassEnd.{PassEnd}
-use Rattle.step_journal.specs.Histories.{Log, entries_of}
+use Rattle.step_journal.specs.Histories.{entries_of}
 use Rattle.loose_records.specs.declared.record.BoxEntry.{BoxEntry}
 use Rattle.loose_records.specs.declared.record.PassRecord.{PassRecord}
 use Rattle.loose_records.specs.declared.record.Record.{Record}
@@ -19,7 +18,7 @@ use Rattle.pass_engine.specs.Engines.{EngineState}
 use Rattle.turn_runs.specs.declared.hand.Hand.{Hand}
 use Rattle.turn_runs.specs.declared.run.Run.{Run}
 use Rattle.still_turns.specs.declared.hand.InHand.{InHand}
-use Rattle.still_turns.specs.Shown.{Shows, IsShown, IsTold, TellsDone, entries_in}
+use Rattle.still_turns.specs.Shown.{Shows, IsTold, TellsDone, entries_in}
 use Rattle.still_turns.proofs.ListPlaces.{same_list, given_slot}
 
 -- the entries of the journals of cells

@@ -1,8 +1,7 @@
 -- A call that a worker may make is refused for want of memory alone.
-use Rattle.std.proofs.Common.{◌≡◌, ℕ, ◌<◌, sym, ap, ◌∙◌, Some, None, slice_get, subst, arith}
-use Rattle.std.specs.Prelude.{◌^◌, max}
+use Rattle.std.proofs.Common.{◌≡◌, ℕ, ◌<◌, sym, ap, ◌∙◌, None, slice_get, arith}
+use Rattle.std.specs.Prelude.{◌^◌}
 use Rattle.std.proofs.lemmas.Option.{same_Some, none-some}
-use Rattle.box_lock.specs.Cells as B
 use Rattle.round_ledger.specs.Cells as L
 use Rattle.pass_seats.specs.declared.pass.SeatPass.{SeatPass}
 use Rattle.pass_seats.specs.declared.refusal.EngineRefusal.{EngineRefusal}

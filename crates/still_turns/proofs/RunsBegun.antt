@@ -1,17 +1,11 @@
 -- A new engine shows the run at its beginning.
-use Rattle.std.proofs.Common.{◌≡◌, ℕ, zero, suc, ◌+◌, ◌<◌, List, [], ◌∷◌, ◌++◌, map, length, refl, sym, ap, ◌∙◌, Some, None}
+use Rattle.std.proofs.Common.{◌≡◌, ℕ, suc, List, [], ◌∷◌, ◌++◌, map, length, refl, sym, ap, ◌∙◌, Some, None}
 use Rattle.std.proofs.Common.{slice_get, subst, arith, replicate}
-use Rattle.std.specs.Prelude.{slice_index_or, Option}
-use Rattle.std.proofs.lemmas.Option.{same_Some, none-some, get_or_from_slice_get, slice_get_within}
+use Rattle.std.specs.Prelude.{Option}
+use Rattle.std.proofs.lemmas.Option.{none-some, get_or_from_slice_get, slice_get_within}
 use Rattle.std.proofs.lemmas.List.{length-map, length-replicate}
-use Rattle.seuss_program.specs.declared.state.State.{State}
 use Rattle.seuss_program.specs.declared.state.Vars.{Vars}
-use Rattle.seuss_program.specs.Programs.{vars_of}
-use Rattle.compat_scheduler.specs.Machines.{beginning}
-use Rattle.step_journal.specs.Histories.{Log, entries_of}
-use Rattle.loose_records.specs.declared.record.BoxEntry.{BoxEntry}
-use Rattle.loose_records.specs.declared.record.SchedEntry.{SchedEntry}
-use Rattle.loose_records.specs.declared.record.Record.{Record}
+use Rattle.step_journal.specs.Histories.{entries_of}
 use Rattle.loose_records.specs.Growing.{empty_record}
 use Rattle.box_lock.specs.Cells.{CellState}
 use Rattle.round_ledger.specs.Cells as L
@@ -20,14 +14,13 @@ use Rattle.pass_seats.specs.Names.{Names}
 use Rattle.pass_seats.specs.Seats.{SeatState}
 use Rattle.pass_gather.specs.Given.{given_of}
 use Rattle.pass_engine.specs.Engines.{EngineState}
-use Rattle.pass_engine.specs.Beginnings.{AreNewWorkers, IsNewEngine, cell_at}
+use Rattle.pass_engine.specs.Beginnings.{AreNewWorkers, IsNewEngine}
 use Rattle.turn_runs.specs.declared.hand.Hand.{Hand}
-use Rattle.turn_runs.specs.declared.run.Run.{Run}
 use Rattle.turn_runs.proofs.ListLemmas.{at-map, at-within}
 use Rattle.still_turns.specs.declared.hand.InHand.{InHand}
 use Rattle.still_turns.specs.declared.hand.InHand.TheVariants as H
 use Rattle.pass_gather.specs.Gathered.{vars_in}
-use Rattle.still_turns.specs.Shown.{Shows, ShowsBoxes, ShowPasses, IsSlot, IsInHand, entries_in}
+use Rattle.still_turns.specs.Shown.{Shows, ShowsBoxes, IsSlot, IsInHand, entries_in}
 use Rattle.still_turns.specs.Shown.{run_begun}
 use Rattle.still_turns.proofs.ListPlaces.{same_list, at_replicate, map_replicate}
 

@@ -1,5 +1,5 @@
 -- An engine shows the same run after a worker was told whether it goes on.
-use Rattle.std.proofs.Common.{◌≡◌, ℕ, ◌⊎◌, inl, inr, List, length, refl, sym, ap, ◌∙◌, Some, None, slice_get, subst}
+use Rattle.std.proofs.Common.{◌≡◌, ℕ, ◌⊎◌, inl, inr, List, sym, ap, ◌∙◌, Some, None, slice_get, subst}
 use Rattle.std.specs.Prelude.{slice_set, Option}
 use Rattle.std.proofs.lemmas.List.{length-set}
 use Rattle.pass_seats.specs.declared.pass.SeatPass.{SeatPass}

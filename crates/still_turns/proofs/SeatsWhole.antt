@@ -1,5 +1,5 @@
 -- The seats of workers, with their cores, as all seats of an engine.
-use Rattle.std.proofs.Common.{◌≡◌, ℕ, List, length, All, Some, None, true, false, slice_get, subst, sym, ◌∙◌}
+use Rattle.std.proofs.Common.{◌≡◌, List, All, true, false, subst, sym, ◌∙◌}
 use Rattle.std.proofs.lemmas.Option.{slice_get_within, get_or_from_slice_get}
 use Rattle.pass_seats.specs.Names.{Names}
 use Rattle.pass_seats.specs.Seats.{SeatState, IsSeat}

@@ -1,15 +1,13 @@
 -- A start, or none, of the engine is a turn of the run that it shows.
-use Rattle.std.proofs.Common.{◌≡◌, ℕ, ◌+◌, ◌<◌, List, [], ◌∷◌, ◌++◌, map, length, refl, sym, ap, ◌∙◌, Some, None, slice_get}
+use Rattle.std.proofs.Common.{◌≡◌, ℕ, ◌+◌, List, [], ◌∷◌, ◌++◌, map, length, refl, sym, ap, ◌∙◌, Some, None, slice_get}
 use Rattle.std.proofs.Common.{subst, arith}
-use Rattle.std.specs.Prelude.{slice_set, Option, max}
+use Rattle.std.specs.Prelude.{slice_set, Option}
 use Rattle.std.proofs.lemmas.Option.{none-some}
 use Rattle.compat_scheduler.specs.Settings.{Setting}
-use Rattle.compat_scheduler.specs.Machines.{Machine, Scheduler}
+use Rattle.compat_scheduler.specs.Machines.{Machine}
 use Rattle.compat_scheduler.specs.Starts.{Starts, NoneStarts}
 use Rattle.compat_scheduler.specs.declared.ticket.Ticket.{Ticket}
 use Rattle.method_code.specs.Chains.{beginning}
-use Rattle.loose_records.specs.declared.record.PassRecord.{PassRecord}
-use Rattle.loose_records.specs.declared.record.Record.{Record}
 use Rattle.loose_records.specs.declared.record.SchedEntry.{SchedEntry}
 use Rattle.loose_records.specs.declared.record.SchedEntry.TheVariants as S
 use Rattle.loose_records.specs.Entries.{stamp_of, sched_stamps}
@@ -28,7 +26,7 @@ use Rattle.pass_engine.specs.Calls.{Started, NoneStarted}
 use Rattle.turn_runs.specs.declared.hand.Hand.{Hand}
 use Rattle.turn_runs.specs.declared.hand.Progress.TheVariants as P
 use Rattle.turn_runs.specs.declared.run.Run.{Run}
-use Rattle.turn_runs.specs.RunTurns.{BeginsPass, StaysIdle}
+use Rattle.turn_runs.specs.RunTurns.{BeginsPass}
 use Rattle.turn_runs.proofs.ListLemmas.{at-push}
 use Rattle.still_turns.specs.declared.hand.InHand.{InHand}
 use Rattle.still_turns.specs.declared.hand.InHand.TheVariants as H

@@ -1,9 +1,8 @@
 -- A step of the engine is a step of the run that it shows.
-use Rattle.std.proofs.Common.{◌≡◌, ℕ, ◌+◌, ◌<◌, List, [], ◌∷◌, ◌++◌, map, length, refl, sym, ap, ◌∙◌, Some, None, slice_get}
-use Rattle.std.proofs.Common.{subst, arith}
+use Rattle.std.proofs.Common.{◌≡◌, ℕ, ◌+◌, List, [], ◌∷◌, ◌++◌, length, refl, sym, ap, ◌∙◌, Some, None, slice_get}
+use Rattle.std.proofs.Common.{subst}
 use Rattle.std.specs.Prelude.{slice_set, Option, max}
 use Rattle.std.proofs.lemmas.Option.{same_Some}
-use Rattle.std.proofs.lemmas.List.{length-map}
 use Rattle.seuss_base.specs.declared.outcome.PassEnd.{PassEnd}
 use Rattle.seuss_program.specs.declared.state.Value.{Value}
 use Rattle.seuss_program.specs.Programs.{vars_of}
@@ -16,11 +15,10 @@ use Rattle.compat_scheduler.specs.declared.ticket.Ticket.{Ticket}
 use Rattle.loose_records.specs.declared.record.BoxEntry.{BoxEntry}
 use Rattle.loose_records.specs.declared.record.Claim.{Claim}
 use Rattle.loose_records.specs.declared.record.PassRecord.{PassRecord}
-use Rattle.loose_records.specs.declared.record.Record.{Record}
 use Rattle.loose_records.specs.Entries.{gives, journal, box_stamps, claimed, step_of}
-use Rattle.loose_records.specs.Growing.{Status, Going, Through, with_claim, claim_of, status_of}
+use Rattle.loose_records.specs.Growing.{with_claim, status_of}
 use Rattle.loose_records.specs.Turns.{clock_of}
-use Rattle.box_lock.specs.Cells.{CellState, log_stamps}
+use Rattle.box_lock.specs.Cells.{CellState}
 use Rattle.round_ledger.specs.Cells as L
 use Rattle.pass_seats.specs.declared.pass.Done.{Done}
 use Rattle.pass_seats.specs.declared.pass.Progress.{Progress}
@@ -28,7 +26,7 @@ use Rattle.pass_seats.specs.declared.pass.Progress.TheVariants as V
 use Rattle.pass_seats.specs.declared.pass.SeatPass.{SeatPass}
 use Rattle.pass_seats.specs.Names.{Names}
 use Rattle.pass_seats.specs.Seats.{SeatState}
-use Rattle.pass_seats.specs.Steps.{GoesOn, commit_after}
+use Rattle.pass_seats.specs.Steps.{GoesOn}
 use Rattle.pass_engine.specs.Engines.{EngineState}
 use Rattle.pass_engine.specs.Calls.{StepMade}
 use Rattle.turn_runs.specs.declared.hand.Hand.{Hand}
@@ -36,12 +34,12 @@ use Rattle.turn_runs.specs.declared.hand.Progress as Q
 use Rattle.turn_runs.specs.declared.hand.Progress.TheVariants as P
 use Rattle.turn_runs.specs.declared.run.Run.{Run}
 use Rattle.turn_runs.specs.Hands.{status_now}
-use Rattle.turn_runs.specs.RunTurns.{MakesStep, GoesOn as RunGoesOn}
+use Rattle.turn_runs.specs.RunTurns.{MakesStep}
 use Rattle.turn_runs.proofs.ListLemmas.{set-here}
 use Rattle.still_turns.specs.declared.hand.InHand.{InHand}
-use Rattle.still_turns.specs.Shown.{Shows, ShowsBoxes, ShowsSched, ShowsTurn, IsShown, IsSlot, IsTold, GoesAt}
+use Rattle.still_turns.specs.Shown.{Shows, ShowsBoxes, ShowsSched, IsShown, IsSlot, IsTold, GoesAt}
 use Rattle.still_turns.specs.Shown.{IsInHand, AreNamed, IsCommitSoFar}
-use Rattle.still_turns.proofs.BoxesShown.{with_step, journal_at, journal_length, vars_at, clock_at, boxes_after}
+use Rattle.still_turns.proofs.BoxesShown.{journal_length, vars_at, clock_at, boxes_after}
 use Rattle.still_turns.proofs.BoxesShown.{claimed_grows, claimed_here}
 use Rattle.still_turns.proofs.ClaimsShown.{named_grows, commit_grows, named_push, commit_push}
 use Rattle.still_turns.proofs.PassesShown.{passes_set}

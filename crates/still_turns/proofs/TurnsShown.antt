@@ -1,18 +1,13 @@
 -- A turn of a worker at the engine is a turn of the run that the engine shows, and may be made where the run says so.
-use Rattle.std.proofs.Common.{◌≡◌, ℕ, ◌+◌, ◌<◌, List, map, length, refl, sym, ap, ◌∙◌, Some, None, slice_get, subst, arith}
-use Rattle.std.specs.Prelude.{slice_set, Option, max, ◌^◌}
+use Rattle.std.proofs.Common.{◌≡◌, ℕ, List, length, refl, sym, ap, ◌∙◌, Some, None, slice_get, subst, arith}
+use Rattle.std.specs.Prelude.{slice_set, Option}
 use Rattle.seuss_program.specs.declared.state.Value.{Value}
-use Rattle.method_code.specs.declared.activation.Activation.{Activation}
 use Rattle.method_code.specs.declared.method.Method.{Method}
 use Rattle.method_code.specs.Codes.{compiled}
 use Rattle.method_code.specs.Chains.{Turned, turned}
-use Rattle.loose_records.specs.Entries.{box_stamps}
-use Rattle.loose_records.specs.Growing.{Going, Through, status_of}
-use Rattle.loose_records.specs.Turns.{clock_of}
-use Rattle.box_lock.specs.Cells.{CellState}
+use Rattle.loose_records.specs.Growing.{Going, status_of}
 use Rattle.pass_seats.specs.declared.pass.Pass.{Pass}
 use Rattle.pass_seats.specs.declared.pass.Progress.TheVariants as V
-use Rattle.pass_seats.specs.declared.pass.SeatPass.{SeatPass}
 use Rattle.pass_seats.specs.Names.{Names}
 use Rattle.pass_seats.specs.Seats.{SeatState}
 use Rattle.pass_engine.specs.Engines.{EngineState}
@@ -24,7 +19,7 @@ use Rattle.turn_runs.specs.declared.run.Run.{Run}
 use Rattle.turn_runs.specs.RunTurns.{MayTurn, MayGoOn, MayStep, MayFinish, GoesOn}
 use Rattle.still_turns.specs.declared.hand.InHand.{InHand}
 use Rattle.still_turns.specs.declared.hand.InHand.TheVariants as H
-use Rattle.still_turns.specs.Shown.{Shows, ShowsTurn, IsInHand, GoesAt, EndsAt, HoldsPass}
+use Rattle.still_turns.specs.Shown.{Shows, ShowsTurn, IsInHand, GoesAt, EndsAt}
 use Rattle.still_turns.specs.WorkerTurns.{MayWork, MayAdvance, MayEnd, Works}
 use Rattle.still_turns.proofs.BoxesShown.{clock_at}
 use Rattle.still_turns.proofs.StartsShown.{sched_clock, none_shown, start_shown}

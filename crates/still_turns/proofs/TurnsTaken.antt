@@ -1,14 +1,9 @@
 -- What the turns of workers need and give, as the loop over them sees it.
-use Rattle.std.proofs.Common.{◌≡◌, ℕ, List, length, Some, slice_get, sym, subst, ◌∙◌}
+use Rattle.std.proofs.Common.{◌≡◌, ℕ, List, Some, slice_get}
 use Rattle.std.specs.Prelude.{slice_set, Result, Ok, Err, IfOk}
-use Rattle.seuss_base.specs.declared.memory.Memory.{Memory}
-use Rattle.loose_records.specs.declared.record.Record.{Record}
-use Rattle.pass_seats.specs.Names.{Names}
 use Rattle.pass_seats.specs.Seats.{SeatState}
 use Rattle.pass_engine.specs.Engines.{EngineState, IsSeatOf}
-use Rattle.still_turns.specs.declared.hand.InHand.{InHand}
 use Rattle.still_turns.specs.Shown.{AreWorkers}
-use Rattle.still_turns.specs.Workings.{HasWorked}
 use Rattle.still_turns.specs.WorkerTurns.{IsSameWorker}
 use Rattle.still_turns.proofs.SeatsWhole.{untorn_of}
 

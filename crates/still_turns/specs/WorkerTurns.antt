@@ -1,5 +1,5 @@
 -- A turn of a worker at the engine for one thread, and what it needs.
-use Rattle.std.specs.Prelude.{◌≡◌, ℕ, ◌<◌, ◌^◌, List, Option, None, Some, slice_get}
+use Rattle.std.specs.Prelude.{◌≡◌, ℕ, ◌<◌, ◌^◌, List, None, Some, slice_get}
 use Rattle.seuss_base.specs.declared.outcome.PassEnd.{PassEnd}
 use Rattle.seuss_program.specs.declared.state.Value.{Value}
 use Rattle.method_code.specs.declared.method.Method.{Method}

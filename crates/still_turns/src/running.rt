@@ -8,7 +8,7 @@ ghost use Rattle.loose_records.specs.Turns.{IsRecordOfTurns};
 ghost use Rattle.pass_seats.specs.Opening.{names_of};
 ghost use Rattle.pass_engine.specs.Beginnings.{AreNewWorkers, IsNewEngine};
 ghost use Rattle.turn_runs.specs.RunStates.{IsTurnSetting};
-ghost use Rattle.turn_runs.specs.TurnSettings.{setting_of};
+ghost use Rattle.loose_records.specs.Settings.{setting_of};
 ghost use Rattle.still_turns.specs.declared.hand.InHand.TheVariants.{Nothing};
 
 use crate::closing::close;

@@ -1,4 +1,3 @@
 pub mod Hands
 pub mod RunStates
 pub mod RunTurns
-pub mod TurnSettings

@@ -5,7 +5,7 @@ ghost use Rattle.seuss_program.specs.Keeping.{HasForm, Keeps};
 ghost use Rattle.method_code.specs.Plans.{AreMadeFrom};
 ghost use Rattle.loose_records.specs.Growing.{empty_record as begun_from};
 ghost use Rattle.loose_records.specs.Turns.{IsRecordOfTurns, worker_of as worker_for};
-ghost use Rattle.turn_runs.specs.TurnSettings.{setting_of};
+ghost use Rattle.loose_records.specs.Settings.{setting_of};
 
 use crate::hand::Hand;
 use crate::keeping::turns_go_on;

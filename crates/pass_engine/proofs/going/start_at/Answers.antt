@@ -1,4 +1,4 @@
-use Rattle.std.proofs.Common.{◌≡◌, Option, subst, rules}
+use Rattle.std.proofs.Common.{Option, subst, rules}
 use Rattle.std.specs.Prelude.{IfSome}
 use Rattle.pass_seats.specs.Items.{ItemState}
 use Rattle.pass_seats.specs.Starts.{Issued}

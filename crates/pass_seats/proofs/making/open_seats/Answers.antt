@@ -1,9 +1,8 @@
-use Rattle.std.proofs.Common.{◌≡◌, ℕ, ◌+◌, ◌<◌, List, [], ◌∷◌, ◌++◌, length, ap, sym, ◌∙◌, refl, subst, arith, None}
+use Rattle.std.proofs.Common.{◌≡◌, ℕ, ◌+◌, List, [], ◌∷◌, ◌++◌, length, ap, sym, ◌∙◌, subst, arith, None}
 use Rattle.std.proofs.Common.{append_assoc, length-append}
 use Rattle.std.specs.Vec.Iter.{into_iter_items}
 use Rattle.quit_word.specs.Seats as Q
 use Rattle.round_ledger.specs.Cells as S
-use Rattle.pass_seats.specs.Seats.{SeatState}
 use Rattle.pass_seats.specs.Opening.{PlacesState, IsFresh, AreNewSeats, fresh_sched}
 use Rattle.pass_seats.proofs.Opening.{places_here, fewer, none_left, seats_push}
 use Rattle.pass_seats.proofs.making.open_seats.Goals as goal

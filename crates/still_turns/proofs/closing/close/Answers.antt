@@ -1,11 +1,9 @@
-use Rattle.std.proofs.Common.{List, length, All, ap, sym, ◌∙◌, subst}
+use Rattle.std.proofs.Common.{List, length, ap, sym, ◌∙◌, subst}
 use Rattle.compat_scheduler.specs.Machines.{Machine}
-use Rattle.box_lock.specs.Cells as B
 use Rattle.round_ledger.specs.Cells as S
-use Rattle.pass_seats.specs.Seats.{SeatState, IsSeat}
+use Rattle.pass_seats.specs.Seats.{SeatState}
 use Rattle.pass_gather.specs.Given.{AreSeats, given_of}
-use Rattle.pass_gather.specs.Gathered.{AreBoxes, IsGathered}
-use Rattle.pass_engine.specs.Engines.{cells_of}
+use Rattle.pass_gather.specs.Gathered.{AreBoxes}
 use Rattle.still_turns.proofs.SeatsWhole.{seats_are}
 use Rattle.still_turns.proofs.closing.close.Goals as goal
 

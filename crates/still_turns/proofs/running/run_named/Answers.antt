@@ -1,14 +1,9 @@
-use Rattle.std.proofs.Common.{◌≡◌, sym, ap, subst, ◌∙◌}
+use Rattle.std.proofs.Common.{sym, ap, subst, ◌∙◌}
 use Rattle.std.specs.Prelude.{IfOk}
-use Rattle.seuss_program.specs.declared.state.State.{State}
-use Rattle.loose_records.specs.declared.record.Record.{Record}
-use Rattle.loose_records.specs.Settings.{RunSetting}
 use Rattle.loose_records.specs.Turns.{IsRecordOfTurns}
 use Rattle.pass_seats.specs.Names.{Names}
 use Rattle.turn_runs.specs.RunStates.{IsTurnSetting}
-use Rattle.turn_runs.specs.TurnSettings.{setting_of}
 use Rattle.turn_runs.proofs.SettingsOfTurns.{is_setting}
-use Rattle.still_turns.proofs.TurnsTaken.{answer_is}
 use Rattle.still_turns.proofs.running.run_named.Goals as goal
 
 pub take_turns-requires-clause-setting : goal.take_turns-requires-clause-setting

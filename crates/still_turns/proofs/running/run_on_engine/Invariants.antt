@@ -1,6 +1,6 @@
 use Rattle.seuss_program.specs.Programs.{vars_of}
 use Rattle.pass_seats.specs.Opening.{names_of}
-use Rattle.turn_runs.specs.TurnSettings.{setting_of}
+use Rattle.loose_records.specs.Settings.{setting_of}
 use Rattle.still_turns.proofs.running.run_on_engine.Given as goal
 
 -- the tables and the first state of this engine name it

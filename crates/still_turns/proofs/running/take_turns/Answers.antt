@@ -1,10 +1,9 @@
-use Rattle.std.proofs.Common.{◌≡◌, ℕ, ◌+◌, ◌-◌, ◌<◌, List, length, Some, slice_get, refl, sym, subst, ap, ◌∙◌, arith}
-use Rattle.std.specs.Prelude.{slice_set, ◌^◌, replicate}
+use Rattle.std.proofs.Common.{◌≡◌, ℕ, ◌+◌, ◌-◌, ◌<◌, List, length, Some, slice_get, sym, subst, ap, ◌∙◌, arith}
+use Rattle.std.specs.Prelude.{slice_set, ◌^◌}
 use Rattle.compat_scheduler.specs.Settings.{Setting}
 use Rattle.loose_records.specs.declared.record.Record.{Record}
 use Rattle.loose_records.specs.Turns.{IsRecordOfTurns, worker_of}
 use Rattle.round_ledger.specs.Cells.{HasEnded}
-use Rattle.pass_seats.specs.Names.{Names}
 use Rattle.pass_seats.specs.Seats.{SeatState}
 use Rattle.pass_gather.specs.Gathered.{IsGathered}
 use Rattle.pass_engine.specs.Engines.{EngineState}

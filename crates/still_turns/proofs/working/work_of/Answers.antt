@@ -1,4 +1,4 @@
-use Rattle.std.proofs.Common.{◌≡◌, length, Some, slice_get, refl, arith}
+use Rattle.std.proofs.Common.{length, refl}
 use Rattle.std.proofs.lemmas.Option.{slice_get_read}
 use Rattle.turn_runs.proofs.ListLemmas.{put_back}
 use Rattle.still_turns.specs.declared.hand.InHand.TheVariants.{Nothing}

@@ -5,7 +5,7 @@ use Rattle.compat_scheduler.specs.Settings.{Setting, one_slot_each}
 use Rattle.compat_scheduler.specs.Machines.{beginning}
 use Rattle.turn_runs.specs.declared.hand.Hand.{Hand}
 use Rattle.turn_runs.specs.RunStates.{HasTurned, turning_of}
-use Rattle.turn_runs.specs.TurnSettings.{setting_of}
+use Rattle.loose_records.specs.Settings.{setting_of}
 use Rattle.turn_runs.proofs.SettingsOfTurns.{is_setting}
 use Rattle.turn_runs.proofs.turning.run_by_turns.Goals as goal
 

@@ -1,5 +1,5 @@
 use Rattle.turn_runs.specs.RunStates.{HasTurned}
-use Rattle.turn_runs.specs.TurnSettings.{setting_of}
+use Rattle.loose_records.specs.Settings.{setting_of}
 use Rattle.turn_runs.proofs.turning.run_by_turns.Given as goal
 
 abbrev pub invariant-loop-turn : goal.invariant-loop-turn

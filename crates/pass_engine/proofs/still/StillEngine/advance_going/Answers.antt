@@ -1,17 +1,16 @@
 use Rattle.std.proofs.Common.{◌≡◌, ℕ, ◌<◌, sym, ap, ◌∙◌, refl, subst, length, map, set, false, List, Option}
 use Rattle.std.proofs.Common.{Some, None, arith}
-use Rattle.std.specs.Prelude.{Result, IfOk, MatchResult, slice_get}
+use Rattle.std.specs.Prelude.{IfOk, MatchResult, slice_get}
 use Rattle.std.proofs.lemmas.Option.{slice_get_read}
 use Rattle.std.proofs.lemmas.List.{length-map, map-set}
 use Rattle.box_lock.specs.Cells as B
-use Rattle.pass_seats.specs.Desks.{BoxDeskState}
 use Rattle.pass_seats.specs.Seats.{SeatState}
 use Rattle.pass_seats.specs.Steps.{IsOpen}
 use Rattle.pass_seats.proofs.Lists.{at-map}
 use Rattle.pass_engine.specs.Engines.{EngineState, engine_of, cell_of, IsEngine}
 use Rattle.pass_engine.specs.Calls.{given_up_after, StepMade, StepRefused, IsAt}
-use Rattle.pass_engine.proofs.Keeping.{with_box, with_cells, box_kept, whole_seat, seat_of, told, none_stays}
-use Rattle.pass_engine.proofs.Stepping.{step_worker, step_unbroken, step_whole, step_made, step_refused}
+use Rattle.pass_engine.proofs.Keeping.{with_cells, box_kept, whole_seat, told}
+use Rattle.pass_engine.proofs.Stepping.{step_worker, step_unbroken, step_made, step_refused}
 use Rattle.pass_engine.proofs.still.StillEngine.advance_going.Goals as goal
 
 pub advance-made-requires-clause-open : goal.advance-made-requires-clause-open

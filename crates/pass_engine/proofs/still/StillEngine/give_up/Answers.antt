@@ -1,6 +1,6 @@
 use Rattle.std.proofs.Common.{◌≡◌, ℕ, sym, ap, ◌∙◌, refl, subst, Option}
 use Rattle.pass_seats.specs.Seats.{SeatState}
-use Rattle.pass_engine.specs.Engines.{EngineState, engine_of, IsEngine, StaysGivenUp, IsGivenUp}
+use Rattle.pass_engine.specs.Engines.{EngineState, engine_of, IsEngine, StaysGivenUp}
 use Rattle.pass_engine.specs.Calls.{GaveUp, first_to}
 use Rattle.pass_engine.proofs.Workers.{torn_worker}
 use Rattle.pass_engine.proofs.Keeping.{with_sched, told, first_given, gave_up_kept, gave_up_stays}

@@ -1,14 +1,14 @@
-use Rattle.std.proofs.Common.{◌≡◌, ℕ, List, Some, length, ap, sym, ◌∙◌, refl, subst, arith, None}
+use Rattle.std.proofs.Common.{◌≡◌, ℕ, List, Some, length, ap, sym, ◌∙◌, subst, arith, None}
 use Rattle.std.specs.Prelude.{slice_get}
 use Rattle.seuss_program.specs.declared.program.Program.{Program}
 use Rattle.method_code.specs.Plans.{AreMadeFrom}
 use Rattle.compat_scheduler.specs.Settings.{one_slot_each}
 use Rattle.loose_records.specs.Settings.{RunSetting}
-use Rattle.pass_seats.specs.Names.{Names, AreNames}
+use Rattle.pass_seats.specs.Names.{Names}
 use Rattle.pass_seats.specs.Seats.{SeatState}
 use Rattle.pass_seats.specs.Opening.{names_of}
 use Rattle.pass_engine.specs.Engines.{engine_of}
-use Rattle.pass_engine.specs.Beginnings.{setting_of, AreNewWorkers}
+use Rattle.pass_engine.specs.Beginnings.{AreNewWorkers}
 use Rattle.pass_engine.proofs.Beginning.{are_names, new_engine, new_keeps, fresh_of}
 use Rattle.pass_engine.proofs.still.StillEngine.new.Goals as goal
 

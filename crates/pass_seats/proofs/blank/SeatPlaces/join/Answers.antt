@@ -1,5 +1,4 @@
-use Rattle.std.proofs.Common.{◌≡◌, List, ap, sym, ◌∙◌, refl, subst, arith, length}
-use Rattle.step_journal.specs.Histories.{own_entries}
+use Rattle.std.proofs.Common.{ap, sym, ◌∙◌, subst}
 use Rattle.pass_seats.specs.declared.pass.Place.{Place}
 use Rattle.pass_seats.specs.Opening.{ArePlaces, PlacesState}
 use Rattle.pass_seats.proofs.Opening.{places_push}

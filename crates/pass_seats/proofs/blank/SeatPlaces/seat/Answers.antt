@@ -1,4 +1,4 @@
-use Rattle.std.proofs.Common.{ap, sym, ◌∙◌, refl, subst, arith, length, ℕ, ◌<◌}
+use Rattle.std.proofs.Common.{ap, sym, ◌∙◌, subst, ℕ, ◌<◌}
 use Rattle.pass_seats.specs.Opening.{PlacesState}
 use Rattle.pass_seats.proofs.Opening.{fresh_seat}
 use Rattle.pass_seats.proofs.blank.SeatPlaces.seat.Goals as goal

@@ -1,5 +1,4 @@
-use Rattle.std.proofs.Common.{◌≡◌, ℕ, ◌+◌, ◌<◌, ◌^◌, ◌∷◌, length, refl, sym, ap, ◌∙◌, subst, arith, Some, None, Option, set}
-use Rattle.std.specs.Prelude.{slice_get}
+use Rattle.std.proofs.Common.{◌≡◌, ℕ, ◌+◌, ◌<◌, ◌^◌, ◌∷◌, length, refl, sym, ap, ◌∙◌, subst, arith, Option, set}
 use Rattle.std.proofs.lemmas.Option.{slice_get_read, slice_get_within}
 use Rattle.pass_seats.specs.declared.pass.Done.{Done}
 use Rattle.pass_seats.specs.declared.pass.SeatPass.{SeatPass}
