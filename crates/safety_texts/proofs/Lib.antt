@@ -1,0 +1,4 @@
+pub mod ListLemmas
+pub mod OneList
+pub mod FaultLemmas
+pub mod PropertyLemmas
