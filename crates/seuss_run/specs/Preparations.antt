@@ -3,8 +3,7 @@ use Rattle.std.specs.Prelude.{ℕ, ◌≤◌}
 use Rattle.seuss_program.specs.Keeping.{Keeps}
 use Rattle.method_code.specs.Plans.{AreMadeFrom}
 use Rattle.compat_matrix.specs.Certificates.{AreLevels}
-use Rattle.loose_records.specs.Settings.{IsSetting}
-use Rattle.turn_runs.specs.TurnSettings.{setting_of}
+use Rattle.loose_records.specs.Settings.{IsSetting, setting_of}
 use Rattle.seuss_run.specs.declared.preparing.Prepared.{Prepared}
 
 -- The program keeps its checks. The code and the plan are its own, and the levels are those that its

@@ -7,7 +7,7 @@ use Rattle.compat_matrix.specs.Certificates.{AreLevels}
 use Rattle.loose_records.specs.declared.record.Record.{Record}
 use Rattle.loose_records.specs.Orders.{commit_order}
 use Rattle.loose_records.specs.Turns.{IsRecordOfTurns}
-use Rattle.turn_runs.specs.TurnSettings.{setting_of}
+use Rattle.loose_records.specs.Settings.{setting_of}
 use Rattle.seuss_run.specs.Runs.{Reports}
 use Rattle.seuss_run.specs.Verdicts.{Loaded}
 

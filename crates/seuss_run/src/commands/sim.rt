@@ -14,7 +14,7 @@ ghost use Rattle.seuss_run.specs.Simulations.{IsSimulated};
 ghost use Rattle.seuss_run.specs.Stages.{◌>=>◌};
 ghost use Rattle.seuss_run.specs.Verdicts.{is_loaded, is_short};
 ghost use Rattle.seuss_run.specs.declared.reading.TheConstants.{MOST_BYTES};
-ghost use Rattle.turn_runs.specs.TurnSettings.{setting_of};
+ghost use Rattle.loose_records.specs.Settings.{setting_of};
 
 use crate::answer::Answer;
 use crate::ends::{is_too_long, report};
@@ -31,7 +31,7 @@ use report_text::Refused;
 use seuss_base::{List, Memory};
 use seuss_program::initial_state;
 use std::alloc::Global;
-use turn_runs::run_by_turns;
+use still_turns::run_on_engine;
 
 /// The record of a run by turns.
 fn record_turns(
@@ -59,7 +59,7 @@ fn record_turns(
     let job = &prepared.job;
     let rows = prepared.rows.copy(alloc)?;
     let state = initial_state(alloc, &job.program, &job.input)?;
-    run_by_turns(
+    run_on_engine(
         alloc,
         &job.program,
         &prepared.code,

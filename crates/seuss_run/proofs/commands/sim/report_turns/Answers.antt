@@ -1,4 +1,4 @@
-use Rattle.turn_runs.specs.TurnSettings.{setting_of}
+use Rattle.loose_records.specs.Settings.{setting_of}
 use Rattle.seuss_run.proofs.TurnReports.{simulated}
 use Rattle.seuss_run.proofs.commands.sim.report_turns.Goals as goal
 
