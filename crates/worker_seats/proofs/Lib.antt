@@ -1,0 +1,5 @@
+pub mod Marks
+pub mod Workers
+pub mod Readies
+pub mod Finishing
+pub mod Tries
