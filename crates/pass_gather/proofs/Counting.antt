@@ -350,3 +350,14 @@ none_open setting machine sched seats count owners tickets numbers quiet given l
     let more = starts_finished count setting machine sched owners tickets numbers quiet in
     let done = done_sum seats in
     record { done = all_pass is_done (given_of seats) (omega (arith, more, given, done, ledger)) }
+
+-- where nothing runs, and so many were finished as the scheduler has finishes, that many were started at most
+pub starts_done : (setting : Setting) (machine : Machine) (sched : Log SchedEntry) (count done : ℕ) →
+    All (IsOwned count) sched → All (λ p. IsOpenOrOver setting machine count sched p.1) sched →
+    map (λ (t : Ticket). t.pass) (started (log_events sched)) ≡ range_with_len 0 machine.starts →
+    running_count machine ≡ 0 → (0 < count → done ≡ finishes_in sched) → machine.starts ≤ done
+starts_done setting machine sched zero done owners tickets numbers quiet counted =
+    let none : 0 ≡ machine.starts = starts_made 0 machine sched owners numbers in omega (arith, none)
+starts_done setting machine sched (suc n) done owners tickets numbers quiet counted =
+    let some : 0 < suc n = omega arith in
+    omega (arith, starts_finished (suc n) setting machine sched owners tickets numbers quiet, counted some)

@@ -1,24 +1,52 @@
 -- The notes and shares of the scheduler's journal: those of all seats and of all given passes.
 use Rattle.std.proofs.Common.{◌≡◌, ℕ, ◌+◌, ◌<◌, ◌≤◌, ⊎_elim, List, [], ◌++◌, map, length, All, sym, ap}
-use Rattle.std.proofs.Common.{◌∙◌, subst, arith, Some, sum_by, count_by, length-append}
+use Rattle.std.proofs.Common.{◌∙◌, subst, arith, Some, sum_by, count_by, length-append, false}
 use Rattle.std.specs.Prelude.{slice_get}
-use Rattle.std.specs.List.{AllZip}
+use Rattle.std.specs.List.{AllZip, range_with_len}
 use Rattle.std.proofs.lemmas.List.{length-map}
 use Rattle.std.proofs.lemmas.List.Elements.{All-nil, All-append, All-map}
+use Rattle.compat_scheduler.specs.declared.ticket.Ticket.{Ticket}
+use Rattle.compat_scheduler.specs.Machines.{running_count}
+use Rattle.compat_scheduler.specs.Runs.{started}
 use Rattle.step_journal.specs.Journals.{NoteState, ShareState, IsPair}
 use Rattle.loose_records.specs.declared.record.SchedEntry.{SchedEntry}
+use Rattle.round_ledger.specs.Cells as S
 use Rattle.pass_seats.specs.declared.pass.SeatPass.{SeatPass}
 use Rattle.pass_seats.specs.Names.{Names}
 use Rattle.pass_seats.specs.Passes.{IsSeatPass}
+use Rattle.pass_seats.specs.Desks.{finishes_in}
 use Rattle.pass_seats.specs.Seats.{SeatState, is_done, logs_of}
 use Rattle.pass_gather.specs.Given.{given_of, notes_of, shares_of, seat_note, pass_note, seat_share, pass_share}
 use Rattle.pass_gather.specs.Given.{AreSeats, AllFinished}
+use Rattle.pass_gather.specs.Closing.{IsOpenSched}
 use Rattle.pass_gather.specs.Listing.{IsThrough}
 use Rattle.pass_gather.specs.Parting.{seat_amount}
 use Rattle.pass_gather.proofs.Lists.{less_or, nil_from_length}
 use Rattle.pass_gather.proofs.Rows.{get-all, zip-maps, zip-append, sum-same}
+use Rattle.pass_gather.proofs.Counting.{starts_done}
 use Rattle.pass_gather.proofs.Owners.{given_seat, whole_at}
 use Rattle.pass_gather.proofs.Finished.{all_through}
+
+-- the seats' parts of the ledger count the passes that they have finished
+amounts_done : (names : Names) (seats : List SeatState) → AreSeats names seats →
+    sum_by seat_amount seats ≡ sum_by (λ (s : SeatState). count_by is_done s.passes) seats
+amounts_done names seats are =
+    sum-same seat_amount (λ (s : SeatState). count_by is_done s.passes) seats
+    (λ w s at. (whole_at names w s (are.each w s at)).amount)
+
+-- the seats were given as many passes as were started, where that follows from so many finishes
+pub given_now : (names : Names) (clock : ℕ) (cell : S.CellState) (seats : List SeatState) → AreSeats names seats →
+    IsOpenSched names cell → S.IsCell clock cell →
+    map (λ (t : Ticket). t.pass) (started (S.log_events cell.journal.log)) ≡ range_with_len 0 cell.machine.starts →
+    running_count cell.machine ≡ 0 →
+    (0 < names.seats → sum_by seat_amount seats ≡ finishes_in cell.journal.log) →
+    (cell.broken ≡ false → cell.machine.starts ≤ sum_by (λ (s : SeatState). count_by is_done s.passes) seats →
+    length (given_of seats) ≡ cell.machine.starts) → length (given_of seats) ≡ cell.machine.starts
+given_now names clock cell seats are sound kept numbers quiet counted given =
+    given sound.whole
+    (starts_done cell.setting cell.machine cell.journal.log cell.seats
+    (sum_by (λ (s : SeatState). count_by is_done s.passes) seats) kept.owners kept.tickets numbers quiet
+    (λ some. sym (amounts_done names seats are) ∙ counted (subst (λ (n : ℕ). 0 < n) sound.seats some)))
 
 -- where the seats count as many finishes as the scheduler each given pass is through
 pub seats_through : (names : Names) (seats : List SeatState) (finishes : ℕ) → AreSeats names seats →
@@ -27,8 +55,7 @@ pub seats_through : (names : Names) (seats : List SeatState) (finishes : ℕ) �
     All IsThrough (given_of seats)
 seats_through names seats finishes are counted finished =
     ⊎_elim (λ (some : 0 < names.seats). all_through names seats are (finished
-    (sym (sum-same seat_amount (λ (s : SeatState). count_by is_done s.passes) seats (λ w s at.
-    (whole_at names w s (are.each w s at)).amount)) ∙ counted some)))
+    (sym (amounts_done names seats are) ∙ counted some)))
     (λ (none : names.seats ≤ 0).
     let nobody : seats ≡ [] = nil_from_length seats (omega (arith, none, are.many)) in
     subst (λ (l : List SeatState). All IsThrough (given_of l)) (sym nobody) (All-nil IsThrough))

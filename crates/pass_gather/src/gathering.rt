@@ -1,10 +1,11 @@
 //! The record of an engine that has ended.
 
-ghost use Rattle.std.specs.Prelude.{◌≡◌, ◌<◌, length, map, All, sum_by, IfOk, OnOk};
+ghost use Rattle.std.specs.Prelude.{◌≡◌, ◌<◌, ◌≤◌, length, map, false, All, sum_by, count_by, IfOk, OnOk};
 ghost use Rattle.loose_records.specs.LooseRecords.{IsLoose};
 ghost use Rattle.round_ledger.specs.Cells.{HasEnded};
 ghost use Rattle.pass_seats.specs.Names.{AreNames};
 ghost use Rattle.pass_seats.specs.Desks.{finishes_in};
+ghost use Rattle.pass_seats.specs.Seats.{is_done};
 ghost use Rattle.pass_gather.specs.Given.{given_of, seat_note, seat_share, AreSeats};
 ghost use Rattle.pass_gather.specs.Closing.{IsReady, IsOpenSched};
 ghost use Rattle.pass_gather.specs.Parting.{open_cell, seat_amount, HaveColumns};
@@ -18,6 +19,7 @@ use crate::laws::{
 use crate::listing::{sort_records, take_passes};
 use crate::parting::{OpenBox, take_desks, take_seats};
 use crate::settling::{audit_all, settle_all};
+use compat_scheduler::laws::passes_are_numbered;
 use loose_records::{Record, SchedEntry};
 use pass_seats::{BoxDesk, EngineNames, SchedDesk, SeatCore, SeatPass};
 use quit_word::QuitWord;
@@ -37,7 +39,8 @@ pub struct EngineParts<N: EngineNames> {
     pub passes: Vec<SeatPass>,
 }
 
-/// Takes an engine apart that nobody gave up. No cell is broken, and its seats count all finishes.
+/// Takes an engine apart that nobody gave up. No cell is broken, its seats count all finishes, and they were given all
+/// passes that were started.
 fn take_engine<N: EngineNames>(
     alloc: Global,
     desks: Vec<BoxDesk<N>>,
@@ -49,6 +52,10 @@ fn take_engine<N: EngineNames>(
     requires boxes { AreBoxes N.names (map cell_of desks.items) }
     requires seats { AreSeats N.names seats.items }
     requires parts { N.parts ≡ N.names.seats }
+    requires given { sched.cell.broken ≡ false →
+        sched.cell.machine.starts ≤ sum_by (λ s. count_by is_done s.passes) seats.items →
+        length (given_of seats.items) ≡ sched.cell.machine.starts }
+    requires ended { sched.cell.broken ≡ false → HasEnded N.names.setting.scheduler sched.cell.machine }
     ensures cells { IfOk result (λ r. map open_cell r.boxes.items ≡ map cell_of desks.items) }
     ensures columns { IfOk result (λ r. HaveColumns seats.items r.boxes.items) }
     ensures ready { IfOk result (λ r. All (IsReady N.names) r.boxes.items) }
@@ -59,7 +66,11 @@ fn take_engine<N: EngineNames>(
     ensures passes { IfOk result (λ r. r.passes.items ≡ given_of seats.items) }
     ensures counted { OnOk result
         (0 < N.names.seats → sum_by seat_amount seats.items ≡ finishes_in sched.cell.journal.log) }
+    ensures ended { OnOk result (HasEnded N.names.setting.scheduler sched.cell.machine) }
+    ensures given { OnOk result (length (given_of seats.items) ≡ sched.cell.machine.starts) }
 {
+    passes_are_numbered();
+    an_ended_run_is_over();
     let parted = take_desks(alloc, desks)?;
     let made = take_seats(alloc, parted.boxes, seats)?;
     let (cell, view, mut first, mut book) = sched.apart();
@@ -67,6 +78,7 @@ fn take_engine<N: EngineNames>(
     views.push(view)?;
     settle_all(&quit, &mut first, made.views, views);
     audit_all(&mut book, made.parts);
+    cell.facts();
     Ok(EngineParts {
         boxes: made.boxes,
         sched: cell,
@@ -77,7 +89,8 @@ fn take_engine<N: EngineNames>(
 }
 
 /// Closes the journals of an engine that has ended, with all its seats, and makes its record. No call with a seat
-/// was refused for want of memory, and nobody gave the engine up.
+/// was refused for want of memory, and nobody gave the engine up: so no cell is broken. That all passes were given that
+/// were started has to hold where the seats have finished as many, as they then have.
 pub fn gather<N: EngineNames>(
     alloc: Global,
     first: State,
@@ -92,8 +105,11 @@ pub fn gather<N: EngineNames>(
     requires boxes { AreBoxes N.names (map cell_of desks.items) }
     requires seats { AreSeats N.names seats.items }
     requires parts { N.parts ≡ N.names.seats }
-    requires given { length (given_of seats.items) ≡ sched.cell.machine.starts }
-    requires ended { HasEnded N.names.setting.scheduler sched.cell.machine }
+    requires given { sched.cell.broken ≡ false →
+        sched.cell.machine.starts ≤ sum_by (λ s. count_by is_done s.passes) seats.items →
+        length (given_of seats.items) ≡ sched.cell.machine.starts }
+    requires ended { sched.cell.broken ≡ false → HasEnded N.names.setting.scheduler sched.cell.machine }
+    ensures whole { OnOk result (sched.cell.broken ≡ false) }
     ensures gathered { IfOk result (IsGathered N.names.first (map cell_of desks.items) sched.cell seats.items) }
     ensures loose { IfOk result (IsLoose N.names.setting) }
     ensures made { IfOk result (SeatsMade seats.items) }

@@ -29,11 +29,11 @@ take_passes-requires g c =
     let seats = c.args.seats.items in
     let f = subst (S.IsCell c.facts.ensures.0) e.sched c.facts.ensures.1 in
     let run = subst (λ (s : Setting). IsRun s (S.log_events cell.journal.log) cell.machine) e.whole.setting f.run in
-    let over = c.an_ended_run_is_over.ensures names cell.machine cell.journal.log run c.requires.ended in
+    let over = c.an_ended_run_is_over.ensures names cell.machine cell.journal.log run c.in_ok-parts.ensures.ended in
     subst (All IsThrough) (sym e.passes)
     (seats_through names seats _ c.requires.seats e.counted
     (λ ledger. c.no_pass_is_open.ensures cell.setting cell.machine cell.journal.log seats cell.seats f.run f.owners
-    f.tickets over.quiet c.requires.given ledger))
+    f.tickets over.quiet c.in_ok-parts.ensures.given ledger))
 
 pub close_sched-sched-requires-clause-cell : goal.close_sched-sched-requires-clause-cell
 close_sched-sched-requires-clause-cell g c =
@@ -47,7 +47,7 @@ close_sched-sched-requires-clause-all g c =
     c.in_ok-records.ensures.notes e.notes e.passes in
     ap length notes ∙ notes_many g.N.EngineNames.names seats c.requires.seats
     ∙ ap (λ (n : ℕ). g.N.EngineNames.names.seats + n)
-    (c.requires.given ∙ sym (ap (λ (s : S.CellState). s.machine.starts) e.sched))
+    (c.in_ok-parts.ensures.given ∙ sym (ap (λ (s : S.CellState). s.machine.starts) e.sched))
 
 pub close_sched-sched-requires-clause-notes : goal.close_sched-sched-requires-clause-notes
 close_sched-sched-requires-clause-notes g c =
@@ -84,7 +84,7 @@ sort_records-requires g c =
     c.close_sched-sched.ensures.closes) in
     let told = subst (λ (l : List SeatPass). AreTold l c.in_ok-records.records.items) e.passes
     c.in_ok-records.ensures.records in
-    told_numbered cell.machine.starts (given_of seats) c.in_ok-records.records.items told c.requires.given
+    told_numbered cell.machine.starts (given_of seats) c.in_ok-records.records.items told c.in_ok-parts.ensures.given
     (c.the_scheduler_gathers.ensures.numbers names cell seats shut c.requires.seats)
     (c.the_scheduler_gathers.ensures.below names cell seats shut c.requires.seats)
 
@@ -107,7 +107,7 @@ returns g c =
     c.close_sched-sched.ensures.closes) in
     let told = subst (λ (l : List SeatPass). AreTold l records) e.passes c.in_ok-records.ensures.records in
     let lists = sorted_lists cell.machine.starts (given_of seats) records passes told c.in_ok-passes.ensures
-    c.requires.given in
+    c.in_ok-parts.ensures.given in
     let all = boxes_closed names code first cells seats c.in_ok-parts.parts.boxes.items e.cells c.requires.boxes e.columns
     c.in_ok-last.ensures.closed in
     let same = record_made names.first cells cell c.args.first c.in_ok-last.last c.in_ok-last.journals
@@ -117,11 +117,12 @@ returns g c =
     (c.close_sched-sched.ensures.entries ∙ ap (λ (s : S.CellState). entries_of s.journal.log) e.sched) in
     let law = c.a_gathered_run_is_a_loose_record.ensures in
     record {
+      whole = e.whole.whole;
       gathered = record { passes = lists; record_is = same };
       loose = subst (IsLoose names.setting) (sym same)
           (law.loose names code first (state_in cells) (map log_in cells) cell seats passes c.requires.named all shut
-          c.requires.seats c.requires.ended lists);
+          c.requires.seats c.in_ok-parts.ensures.ended lists);
       made = subst (SeatsMade seats) (sym same)
           (law.made names code first (state_in cells) (map log_in cells) cell seats passes c.requires.named all shut
-          c.requires.seats c.requires.ended);
+          c.requires.seats c.in_ok-parts.ensures.ended);
     }

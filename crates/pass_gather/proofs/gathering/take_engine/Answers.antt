@@ -2,10 +2,15 @@ use Rattle.std.proofs.Common.{◌≡◌, ℕ, ◌<◌, map, length, All, ap, sym
 use Rattle.std.proofs.Common.{Some, None}
 use Rattle.std.proofs.lemmas.List.{length-map}
 use Rattle.std.proofs.lemmas.List.Elements.{All-push, All-pop, All-weaker}
+use Rattle.compat_scheduler.specs.Settings.{Setting}
+use Rattle.compat_scheduler.specs.Runs.{IsRun}
 use Rattle.quit_word.specs.Seats as Q
+use Rattle.round_ledger.specs.Cells as S
+use Rattle.pass_gather.specs.Closing.{IsOpenSched}
 use Rattle.pass_gather.specs.Gathered.{cell_of}
 use Rattle.pass_gather.specs.Parting.{open_cell, seat_view, seat_parts, seat_amount, parts_in, amount_in}
 use Rattle.pass_gather.proofs.Columns.{boxes_ready}
+use Rattle.pass_gather.proofs.Notes.{given_now}
 use Rattle.pass_gather.proofs.Rows.{all-across, length-across, sum-across}
 use Rattle.pass_gather.proofs.Settled.{unbroken, seats_unmarked, seats_named, desks_named, cells_open}
 use Rattle.pass_gather.proofs.gathering.take_engine.Goals as goal
@@ -96,3 +101,37 @@ returns-clause-counted g c =
     c.in_ok-made.ensures.amounts)
     ∙ c.audit_all.ensures (subst (λ (n : ℕ). 0 < n) (sym c.requires.parts) some)
     ∙ c.apart-cell.ensures.book ∙ c.apart-cell.ensures.kept.counted
+
+pub returns-clause-ended : goal.returns-clause-ended
+returns-clause-ended g c =
+    let kept = c.apart-cell.ensures.kept in
+    let sched = c.args.sched in
+    let all = All-pop (λ (v : Q.ViewState). v.seen ≡ None) c.push.new.self.items c.in_ok-parted.parted.views.items
+    (Some c.apart-cell.result.1) c.in_ok-push.ensures.items c.settle_all.ensures in
+    c.requires.ended
+    (unbroken sched.cell.broken sched.quit.seen kept.broken
+    (sym (ap (λ (v : Q.ViewState). v.seen) c.apart-cell.ensures.quit) ∙ all.1))
+
+pub returns-clause-given : goal.returns-clause-given
+returns-clause-given g c =
+    let names = g.N.EngineNames.names in
+    let kept = c.apart-cell.ensures.kept in
+    let sched = c.args.sched in
+    let cell = sched.cell in
+    let seats = c.args.seats.items in
+    let all = All-pop (λ (v : Q.ViewState). v.seen ≡ None) c.push.new.self.items c.in_ok-parted.parted.views.items
+    (Some c.apart-cell.result.1) c.in_ok-push.ensures.items c.settle_all.ensures in
+    let whole = unbroken cell.broken sched.quit.seen kept.broken
+    (sym (ap (λ (v : Q.ViewState). v.seen) c.apart-cell.ensures.quit) ∙ all.1) in
+    let sound : IsOpenSched names cell =
+    record { journal = kept.journal; setting = kept.setting; seats = kept.seats; whole = whole } in
+    let f = subst (S.IsCell c.facts.ensures.0) c.apart-cell.ensures.cell c.facts.ensures.1 in
+    let run = subst (λ (s : Setting). IsRun s (S.log_events cell.journal.log) cell.machine) sound.setting f.run in
+    let over = c.an_ended_run_is_over.ensures names cell.machine cell.journal.log run (c.requires.ended whole) in
+    given_now names c.facts.ensures.0 cell seats c.requires.seats sound f
+    (c.passes_are_numbered.ensures cell.setting (S.log_events cell.journal.log) cell.machine f.run) over.quiet
+    (λ some.
+    sym (sum-across amount_in seat_amount c.in_ok-made.made.parts.items seats c.in_ok-made.ensures.amounts)
+    ∙ c.audit_all.ensures (subst (λ (n : ℕ). 0 < n) (sym c.requires.parts) some)
+    ∙ c.apart-cell.ensures.book ∙ c.apart-cell.ensures.kept.counted)
+    c.requires.given

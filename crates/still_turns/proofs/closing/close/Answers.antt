@@ -20,12 +20,12 @@ gather-requires-clause-seats g c =
     (seats_are names c.args.seats.items c.in_ok-cores.ensures.seats c.requires.workers)
 
 pub gather-requires-clause-given : goal.gather-requires-clause-given
-gather-requires-clause-given g c =
+gather-requires-clause-given g c = λ _ _.
     ap (λ (l : List SeatState). length (given_of l)) c.in_ok-cores.ensures.cores
     ∙ c.requires.given
     ∙ sym (ap (λ (k : S.CellState). k.machine.starts) c.apart-first.ensures.sched)
 
 pub gather-requires-clause-ended : goal.gather-requires-clause-ended
-gather-requires-clause-ended g c =
+gather-requires-clause-ended g c = λ _.
     subst (λ (m : Machine). S.HasEnded g.N.EngineNames.names.setting.scheduler m)
     (sym (ap (λ (k : S.CellState). k.machine) c.apart-first.ensures.sched)) c.requires.ended

@@ -50,6 +50,7 @@ gather-requires-clause-given g c =
     let many : length (map (seen_with log) seats) ≡ names.seats =
     length-map seats (seen_with log) ∙ c.requires.seats.many in
     let owners = subst (λ (n : ℕ). All (S.IsOwned n) log) (sym many) c.facts.ensures.owners in
+    λ _ _.
     ap (λ (l : List SeatState). length (given_of l)) cores
     ∙ c.all_starts_were_given.ensures names.setting.scheduler cell.machine log (map (seen_with log) seats)
     c.facts.ensures.run owners (cores_took names log seats see c.requires.seats)
@@ -59,6 +60,7 @@ pub gather-requires-clause-ended : goal.gather-requires-clause-ended
 gather-requires-clause-ended g c =
     let sched_is = ap (λ (d : SchedDeskState). d.cell) c.in_ok-cores.ensures.desk
     ∙ c.apart-first.ensures.sched in
+    λ _.
     subst (λ (m : Machine). S.HasEnded g.N.EngineNames.names.setting.scheduler m)
     (sym (ap (λ (k : S.CellState). k.machine) sched_is)) c.requires.ended
 
