@@ -1,0 +1,6 @@
+mod Takes
+mod Ending
+mod Columns
+mod Parting
+mod Looks
+mod AllSeats

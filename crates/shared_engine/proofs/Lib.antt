@@ -1,0 +1,5 @@
+pub mod Beginning
+pub mod Crossing
+pub mod Keeping
+pub mod Others
+pub mod Seating
