@@ -1,0 +1,4 @@
+pub mod Benches
+pub mod Crossing
+pub mod Lists
+pub mod Seats

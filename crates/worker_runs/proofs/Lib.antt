@@ -1,0 +1,2 @@
+mod SeatsBegun
+mod SeatsLeft
