@@ -7,8 +7,8 @@ use crate::numbers::push_number;
 use seuss_base::{Memory, Text};
 use std::alloc::Global;
 
-/// Why a program, its input or a command's words are refused. A number is the line of the place that
-/// is refused, from 1.
+/// Why a program, its input, its properties or a command's words are refused. A number is the line of the
+/// place that is refused, from 1.
 #[derive(Clone, Copy, Debug, PartialEq, Eq)]
 pub enum Refused {
     /// More bytes than are read: of a program, of its input, or of both together.
@@ -41,6 +41,8 @@ pub enum Refused {
     Cycle(u32),
     /// A word of the input that is no number of 64 bits.
     Input(u32),
+    /// A text that is no list of properties of the program.
+    Property(u32),
     /// A certificate that does not hold: from some state the two orders of its methods differ.
     CertificateNo(u32),
     /// A certificate of which the cases of its methods do not tell whether it holds.
@@ -72,6 +74,7 @@ impl Refused {
             Refused::TotalCall(_) => b"total_call",
             Refused::Cycle(_) => b"cycle",
             Refused::Input(_) => b"input",
+            Refused::Property(_) => b"property",
             Refused::CertificateNo(_) => b"certificate_no",
             Refused::CertificateUnclear(_) => b"certificate_unclear",
             Refused::Attempts => b"attempts",
@@ -98,6 +101,7 @@ impl Refused {
             | Refused::TotalCall(n)
             | Refused::Cycle(n)
             | Refused::Input(n)
+            | Refused::Property(n)
             | Refused::CertificateNo(n)
             | Refused::CertificateUnclear(n) => Some(n),
             Refused::Long | Refused::Attempts | Refused::Action => None,

@@ -37,6 +37,7 @@ fault_of p (R.PartialCall n) fault = absurd fault
 fault_of p (R.TotalCall n) fault = absurd fault
 fault_of p (R.Cycle n) fault = absurd fault
 fault_of p (R.Input n) fault = absurd fault
+fault_of p (R.Property n) fault = absurd fault
 fault_of p (R.CertificateNo n) (vars, first, second, refused) = fails n vars first second refused refl
 fault_of p (R.CertificateUnclear n) (cause, refused) = unclear n cause refused refl
 fault_of p R.Attempts fault = absurd fault

@@ -16,11 +16,12 @@ use Rattle.report_text.specs.declared.refusals.Refused.TheVariants as R
 use Rattle.seuss_run.specs.declared.words.Command.{Command}
 use Rattle.seuss_run.specs.declared.words.Command.TheVariants as C
 use Rattle.seuss_run.specs.Commands.{action_word}
-use Rattle.seuss_run.specs.Stages.{IsOne}
-use Rattle.seuss_run.specs.Verdicts.{Printing, Checking, Comparing, Attempting, IsVerdict, is_split}
+use Rattle.seuss_run.specs.Stages.{IsOne, ◌>=>◌, first_of}
+use Rattle.seuss_run.specs.PropertyLists.{has_properties}
+use Rattle.seuss_run.specs.Verdicts.{Printing, Checking, Comparing, Attempting, Proving, IsVerdict, is_split}
 use Rattle.seuss_run.specs.Verdicts.{is_spelled, is_resolved, has_no_cycle, has_levels, is_ordered, has_input}
 use Rattle.seuss_run.specs.Verdicts.{is_certified, is_loaded, is_loaded_parts, has_tree_alone, is_short}
-use Rattle.seuss_run.specs.Verdicts.{are_actions, action_number}
+use Rattle.seuss_run.specs.Verdicts.{is_claimed, is_claimed_parts, are_actions, action_number}
 use Rattle.seuss_run.proofs.StageLemmas.{one_behind, one_makes, one_passes, one_first_of, one_second_of}
 use Rattle.seuss_run.proofs.VerdictLemmas.{one_read}
 
@@ -112,16 +113,22 @@ one_named names given (Err why) (Ok a) (told, (k, x, within, at, none)) (numbers
 one_named names given (Err why) (Err cause) (told, some) (told', some') = ap Err (told ∙ sym told')
 
 module _ (split : IsOne is_split) (spelled : IsOne is_spelled) (levels : OneLevels)
-    (numbers : IsOne has_input)
-    (certified : IsOne is_certified) where
+    (numbers : IsOne has_input) (properties : IsOne has_properties) (certified : IsOne is_certified) where
+  one_program : IsOne (first_of {C = List ℕ} (is_spelled >=> is_resolved >=> is_ordered))
+  one_program =
+      one_first_of _ (one_behind _ _ spelled (one_behind _ _ one_resolved (one_ordered levels)))
+
   one_parts : IsOne is_loaded_parts
-  one_parts =
-      one_behind _ _
-      (one_first_of _ (one_behind _ _ spelled (one_behind _ _ one_resolved (one_ordered levels))))
-      (one_behind _ _ (one_second_of _ numbers) (one_first_of _ certified))
+  one_parts = one_behind _ _ one_program (one_behind _ _ (one_second_of _ numbers) (one_first_of _ certified))
 
   one_loaded : IsOne is_loaded
   one_loaded = one_behind _ _ one_read (one_behind _ _ split one_parts)
+
+  one_claimed_parts : IsOne is_claimed_parts
+  one_claimed_parts = one_behind _ _ one_program (one_behind _ _ properties (one_first_of _ certified))
+
+  one_claimed : IsOne is_claimed
+  one_claimed = one_behind _ _ one_read (one_behind _ _ split one_claimed_parts)
 
   one_tree_alone : IsOne has_tree_alone
   one_tree_alone =
@@ -137,3 +144,4 @@ module _ (split : IsOne is_split) (spelled : IsOne is_spelled) (levels : OneLeve
   one_meaning C.Matrix = one_behind _ _ one_loaded (one_makes Comparing)
   one_meaning C.Check = one_behind _ _ one_loaded (one_makes Checking)
   one_meaning C.Print = one_behind _ _ one_tree_alone (one_makes Printing)
+  one_meaning C.Prove = one_behind _ _ one_claimed (one_makes Proving)

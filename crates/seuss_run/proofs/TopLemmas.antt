@@ -12,7 +12,8 @@ use Rattle.seuss_run.specs.declared.answer.Answer.{Answer}
 use Rattle.seuss_run.specs.Commands.{IsCommand}
 use Rattle.seuss_run.specs.Readings.{Takes, TakesAll}
 use Rattle.seuss_run.specs.Stages.{Stage, ◌>=>◌}
-use Rattle.seuss_run.specs.Verdicts.{IsVerdict, Task, is_read, is_split, is_loaded_parts, tree_of}
+use Rattle.seuss_run.specs.Verdicts.{IsVerdict, Task, is_read, is_split, is_loaded_parts, is_claimed_parts}
+use Rattle.seuss_run.specs.Verdicts.{tree_of}
 use Rattle.seuss_run.specs.Answers.{Answers, Ends, EndsDone, EndsRefused, WasRead, WereRead}
 use Rattle.seuss_base.specs.Sinks.{Adds}
 use Rattle.seuss_run.specs.Promises.{Complete, IsGiven, RefusedSo}
@@ -38,6 +39,8 @@ long_not_accepted : (command : Command) (bytes : List ℕ) (task : Task) → MOS
 unfolding IsVerdict
 long_not_accepted C.Print bytes task long accepted =
     read_few (is_split >=> tree_of) bytes accepted.0 long accepted.1
+long_not_accepted C.Prove bytes task long accepted =
+    read_few (is_split >=> is_claimed_parts) bytes accepted.0 long accepted.1
 long_not_accepted command bytes task long accepted =
     read_few (is_split >=> is_loaded_parts) bytes accepted.0 long accepted.1
 

@@ -49,6 +49,7 @@ fault_of text (R.PartialCall n) fault = absurd fault
 fault_of text (R.TotalCall n) fault = absurd fault
 fault_of text (R.Cycle n) fault = absurd fault
 fault_of text (R.Input n) fault = absurd fault
+fault_of text (R.Property n) fault = absurd fault
 fault_of text (R.CertificateNo n) fault = absurd fault
 fault_of text (R.CertificateUnclear n) fault = absurd fault
 fault_of text R.Attempts fault = absurd fault

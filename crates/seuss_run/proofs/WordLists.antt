@@ -3,7 +3,7 @@ use Rattle.std.proofs.Common.{◌≡◌, ℕ, suc, ◌+◌, ◌<◌, List, [], �
 use Rattle.std.proofs.Common.{refl, sym, ap, ◌∙◌, append_assoc, drop-cons, arith}
 use Rattle.std.specs.Prelude.{Bool, ◌↔◌, IsTrue, codes, Option, Some, None, option_map, option_and_then}
 use Rattle.std.specs.Bool.{Decides}
-use Rattle.seuss_run.specs.Commands.{each_in, BeginsRun}
+use Rattle.seuss_run.specs.Commands.{each_in}
 
 module _ {A B : Type 0} (read : A → Option B) where
   -- what is made of the first items, and then of the others
@@ -46,9 +46,3 @@ items_from f items i item within is =
     let next : i + 1 ≡ suc i = omega arith in
     let here = ap (λ x. x ∷ drop (suc i) items) (sym is) ∙ ap (λ j. item ∷ drop j items) (sym next) in
     ap (map f) (drop-cons items i item within ∙ here)
-
--- the first word is `run` exactly where the words begin with it
-pub begins_run : (words others : List (List ℕ)) (word : List ℕ) (r : Bool) →
-    words ≡ word ∷ others → Decides r (word ≡ codes "run") → IsTrue r ↔ BeginsRun words
-begins_run words others word r e same =
-    ((λ is. (others, e ∙ ap (λ w. w ∷ others) (same.0 is))), (λ begins. same.1 (cc (e, begins.1))))

@@ -11,11 +11,12 @@ use Rattle.report_text.specs.CheckTexts.{check_text}
 use Rattle.seuss_run.specs.declared.words.Command.{Command}
 use Rattle.seuss_run.specs.declared.words.Command.TheVariants as C
 use Rattle.seuss_run.specs.Matrices.{IsMatrix}
+use Rattle.seuss_run.specs.PropertyReports.{IsPropertyReport}
 use Rattle.seuss_run.specs.Readings.{Takes, TakesAll, AreTooMany}
 use Rattle.seuss_run.specs.Runs.{IsReport, status_of}
 use Rattle.seuss_run.specs.Simulations.{IsSimulated}
-use Rattle.seuss_run.specs.Verdicts.{Task, Printing, Checking, Comparing, Running, Attempting, Loaded}
-use Rattle.seuss_run.specs.Verdicts.{IsVerdict}
+use Rattle.seuss_run.specs.Verdicts.{Task, Printing, Checking, Comparing, Running, Attempting, Proving}
+use Rattle.seuss_run.specs.Verdicts.{Loaded, IsVerdict}
 use Rattle.seuss_run.specs.declared.reading.TheConstants.{MOST_BYTES}
 use Rattle.seuss_run.specs.declared.words.TheConstants.{DEFAULT_BUDGET}
 
@@ -36,6 +37,7 @@ Does (C.Tight names) (Attempting given actions) status text = IsTightReport give
 Does C.Matrix (Comparing given) status text = (status ≡ 0) × IsMatrix given.0 text
 Does C.Check (Checking given) status text = (status ≡ 0) × (text ≡ check_text given.0)
 Does C.Print (Printing tree) status text = (status ≡ 0) × (text ≡ canonical_text tree)
+Does C.Prove (Proving given) status text = (status ≡ 0) × IsPropertyReport given text
 Does command task status text = ⊥
 
 -- Status 3, and the line of a refusal; or status 0, 1 or 2, and what the command writes.
@@ -52,6 +54,7 @@ WasRead (C.Tight actions) left rest bytes = TakesAll left rest bytes
 WasRead C.Matrix left rest bytes = TakesAll left rest bytes
 WasRead C.Check left rest bytes = TakesAll left rest bytes
 WasRead C.Print left rest bytes = TakesAll left rest bytes
+WasRead C.Prove left rest bytes = TakesAll left rest bytes
 
 -- the bytes were read to their end, or more of them were taken than are read
 abbrev pub WereRead : Option (List ℕ) → Option (List ℕ) → List ℕ → Type 0

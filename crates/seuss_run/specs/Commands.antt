@@ -90,7 +90,8 @@ still_of name words =
     (if bytes_eq name (codes "tight") then tight_of words else
     (if bytes_eq name (codes "matrix") then alone C.Matrix words else
     (if bytes_eq name (codes "check") then alone C.Check words else
-    (if bytes_eq name (codes "print") then alone C.Print words else None))))
+    (if bytes_eq name (codes "print") then alone C.Print words else
+    (if bytes_eq name (codes "prove") then alone C.Prove words else None)))))
 
 -- The command that words are.
 unfoldable pub command_of : List (List ℕ) → Option Command
@@ -101,9 +102,13 @@ command_of (name ∷ words) = if bytes_eq name (codes "run") then run_of words e
 abbrev pub IsCommand : List (List ℕ) → Command → Type 0
 IsCommand words command = command_of words ≡ Some command
 
--- the first of the words is `run`
-abbrev pub BeginsRun : List (List ℕ) → Type 0
-BeginsRun words = (others : List (List ℕ)) × (words ≡ codes "run" ∷ others)
+-- the numbers of a run by workers are within their limits
+pub record AreRunLimits (rounds workers budget : ℕ) : Type 0 where
+  pub few_rounds : rounds ≤ MOST_ROUNDS
+  pub some_workers : 1 ≤ workers
+  pub few_workers : workers ≤ MOST_WORKERS
+  pub some_budget : 1 ≤ budget
+  pub small_budget : budget ≤ MOST_BUDGET
 
 -- the numbers of a run by turns are within their limits
 pub record AreTurnLimits (rounds width : ℕ) (turns : List ℕ) (budget : ℕ) : Type 0 where
@@ -116,9 +121,10 @@ pub record AreTurnLimits (rounds width : ℕ) (turns : List ℕ) (budget : ℕ) 
 
 -- the numbers of a command are within their limits
 abbrev pub HasLimits : Command → Type 0
-HasLimits (C.Run rounds workers budget) = (rounds ≤ MOST_ROUNDS) × (budget ≤ MOST_BUDGET)
+HasLimits (C.Run rounds workers budget) = AreRunLimits rounds workers budget
 HasLimits (C.Sim rounds width turns budget) = AreTurnLimits rounds width turns budget
 HasLimits (C.Tight actions) = Unit {0}
 HasLimits C.Matrix = Unit {0}
 HasLimits C.Check = Unit {0}
 HasLimits C.Print = Unit {0}
+HasLimits C.Prove = Unit {0}

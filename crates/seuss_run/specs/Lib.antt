@@ -1,9 +1,13 @@
 pub mod Answers
+pub mod Askings
 pub mod Commands
+pub mod Holding
 pub mod Loadings
 pub mod Matrices
 pub mod Preparations
 pub mod Promises
+pub mod PropertyLists
+pub mod PropertyReports
 pub mod Readings
 pub mod Runs
 pub mod Served

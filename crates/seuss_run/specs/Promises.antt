@@ -43,6 +43,7 @@ IsGiven (C.Tight actions) left bytes = left ≡ Some bytes
 IsGiven C.Matrix left bytes = left ≡ Some bytes
 IsGiven C.Check left bytes = left ≡ Some bytes
 IsGiven C.Print left bytes = left ≡ Some bytes
+IsGiven C.Prove left bytes = left ≡ Some bytes
 
 -- what keeps a command from its end, by its status: a read or a write that failed, or want of memory
 abbrev pub IsHindered : Command → ℕ → Type 0
@@ -52,6 +53,7 @@ IsHindered (C.Tight actions) status = 5 ≤ status
 IsHindered C.Matrix status = 5 ≤ status
 IsHindered C.Check status = 5 ≤ status
 IsHindered C.Print status = 5 ≤ status
+IsHindered C.Prove status = 5 ≤ status
 
 -- a command whose bytes ask for a task is done, if nothing hinders it
 abbrev pub Complete : (Command → Type 0) → List (List ℕ) → Option (List ℕ) → ℕ → Type 0
@@ -98,6 +100,7 @@ LeftByFault (C.Tight actions) left rest before now = WroteFront (C.Tight actions
 LeftByFault C.Matrix left rest before now = WroteFront C.Matrix left rest before now
 LeftByFault C.Check left rest before now = WroteFront C.Check left rest before now
 LeftByFault C.Print left rest before now = WroteFront C.Print left rest before now
+LeftByFault C.Prove left rest before now = WroteFront C.Prove left rest before now
 
 -- after a write that failed: a front of the usage was written, or what the command leaves
 abbrev pub AfterFault : (Command → Type 0) → List (List ℕ) → Option (List ℕ) → Option (List ℕ) →
@@ -121,6 +124,7 @@ LeftByMemory (C.Tight actions) left rest before now = ⊥
 LeftByMemory C.Matrix left rest before now = ⊥
 LeftByMemory C.Check left rest before now = ⊥
 LeftByMemory C.Print left rest before now = ⊥
+LeftByMemory C.Prove left rest before now = ⊥
 
 -- Status 7, want of memory: nothing was written, or what the command leaves.
 abbrev pub AfterMemory : {W : Type 0} → (Command → Type 0) → List (List ℕ) → W → W → Option (List ℕ) →

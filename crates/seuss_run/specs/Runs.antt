@@ -1,6 +1,5 @@
 -- What a run prints.
-use Rattle.std.specs.Prelude.{◌≡◌, ℕ, ◌%◌, ◌<◌, ℤ, Bool, false, List, [], ◌∷◌, ◌++◌, length, map}
-use Rattle.std.specs.Prelude.{slice_index_or, All}
+use Rattle.std.specs.Prelude.{◌≡◌, ℕ, ℤ, false, All, List, map}
 use Rattle.seuss_base.specs.declared.outcome.Outcome.{Outcome}
 use Rattle.seuss_program.specs.declared.program.Program.{Program}
 use Rattle.seuss_program.specs.declared.state.State.{State}
@@ -9,7 +8,7 @@ use Rattle.seuss_program.specs.declared.order.LastLine.{LastLine}
 use Rattle.seuss_program.specs.declared.order.LastLine.TheVariants as L
 use Rattle.seuss_program.specs.Attempts.{tight}
 use Rattle.seuss_program.specs.Initials.{initial}
-use Rattle.seuss_program.specs.Orders.{stops, IsLawful, slots_of, action_of}
+use Rattle.seuss_program.specs.Orders.{stops, IsLawful, slots_of}
 use Rattle.seuss_program.specs.Reports.{report, last_line}
 
 -- the actions of an order
@@ -47,20 +46,6 @@ abbrev pub IsReport : Program → List ℤ → ℕ → ℕ → ℕ → List ℕ 
 IsReport p input rounds budget status text =
     (order : List Placed) × (state : State) × Reports p input rounds budget order state status text
 
--- an order of attempts of slots, of which attempt k stands at place k
-abbrev pub IsInTurn : List ℕ → List Placed → Type 0
-IsInTurn slots order = (k : ℕ) (d : Placed) → k < length order →
-    ((slice_index_or order k d).attempt ≡ k)
-    × ((slice_index_or order k d).action ≡ action_of slots (k % length slots))
-
 -- no attempt stopped the run
 abbrev pub NoneStops : List Placed → Type 0
 NoneStops order = All (λ (p : Placed). stops p.outcome ≡ false) order
-
--- One attempt more: its place in the run, its action, and its outcome, which says whether the run stops.
-pub record Adds (slots : List ℕ) (attempt : ℕ) (before after : List Placed) (stopped : Bool) : Type 0 where
-  pub placed : Placed
-  pub last : after ≡ before ++ placed ∷ []
-  pub attempt_is : placed.attempt ≡ attempt
-  pub action_is : placed.action ≡ action_of slots (attempt % length slots)
-  pub stopped_is : stopped ≡ stops placed.outcome

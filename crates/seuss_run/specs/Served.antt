@@ -15,6 +15,7 @@ IsStill (C.Tight actions) = Unit {0}
 IsStill C.Matrix = Unit {0}
 IsStill C.Check = Unit {0}
 IsStill C.Print = Unit {0}
+IsStill C.Prove = Unit {0}
 
 -- any command
 abbrev pub IsAny : Command → Type 0

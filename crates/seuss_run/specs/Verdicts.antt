@@ -33,6 +33,7 @@ use Rattle.seuss_run.specs.declared.reading.TheConstants.{MOST_BYTES}
 use Rattle.seuss_run.specs.declared.words.Command.{Command}
 use Rattle.seuss_run.specs.declared.words.Command.TheVariants as C
 use Rattle.seuss_run.specs.Commands.{action_word}
+use Rattle.seuss_run.specs.PropertyLists.{Claimed, has_properties}
 use Rattle.seuss_run.specs.Splits.{IsSplit}
 use Rattle.seuss_run.specs.Stages.{Stage, makes, passes, first_of, second_of, ◌>=>◌}
 
@@ -47,6 +48,7 @@ pub data Task : Type 0 where
   Comparing : Loaded → Task
   Running : Loaded → Task
   Attempting : Loaded → List ℕ → Task
+  Proving : Claimed → Task
 
 -- more bytes than the limit aren't read
 abbrev pub is_read : Stage (List ℕ) (List ℕ)
@@ -140,6 +142,15 @@ is_loaded_parts = first_of (is_spelled >=> is_resolved >=> is_ordered) >=> secon
 abbrev pub is_loaded : Stage (List ℕ) Loaded
 is_loaded = is_read >=> is_split >=> is_loaded_parts
 
+-- a program with its properties: first the program is checked, then the properties, then the certificates
+abbrev pub is_claimed_parts : Stage (List ℕ × List ℕ) Claimed
+is_claimed_parts = first_of (is_spelled >=> is_resolved >=> is_ordered) >=> has_properties >=>
+    first_of is_certified
+
+-- the program of the bytes that were read, with the properties that stand in the place of its input
+abbrev pub is_claimed : Stage (List ℕ) Claimed
+is_claimed = is_read >=> is_split >=> is_claimed_parts
+
 -- the tree of the program part alone
 abbrev pub tree_of : Stage (List ℕ × List ℕ) Tree
 tree_of = first_of is_spelled >=> makes (λ read. read.0)
@@ -177,3 +188,4 @@ IsVerdict C.Check = is_loaded >=> makes Checking
 IsVerdict (C.Run rounds workers budget) = is_loaded >=> is_short rounds
 IsVerdict (C.Sim rounds width turns budget) = is_loaded >=> is_short rounds
 IsVerdict (C.Tight actions) = is_loaded >=> are_actions actions
+IsVerdict C.Prove = is_claimed >=> makes Proving

@@ -3,12 +3,21 @@
 ghost use Rattle.std.specs.Prelude.{◌≡◌, ◌≤◌, ◌<◌, ◌↔◌, length, IsTrue, IfOk};
 ghost use Rattle.seuss_program.specs.Orders.{IsLawful, slots_of};
 ghost use Rattle.seuss_program.specs.Reports.{last_line as last_line_of, report as report_of};
-ghost use Rattle.seuss_run.specs.Runs.{status_of as status_after};
+ghost use Rattle.loose_records.specs.LooseRecords.{IsLoose};
+ghost use Rattle.loose_records.specs.Orders.{commit_order as commit_order_of};
+ghost use Rattle.loose_records.specs.Settings.{setting_of};
+ghost use Rattle.seuss_program.specs.Initials.{initial};
+ghost use Rattle.seuss_run.specs.Preparations.{IsPrepared};
+ghost use Rattle.seuss_run.specs.Runs.{Reports, status_of as status_after};
 ghost use Rattle.seuss_run.specs.Verdicts.{attempts_in};
 ghost use Rattle.seuss_run.specs.declared.ends.TheConstants.{MOST_ATTEMPTS};
-ghost use Rattle.seuss_run.specs.declared.words.TheConstants.{MOST_ROUNDS};
+ghost use Rattle.seuss_run.specs.declared.words.TheConstants.{MOST_BUDGET, MOST_ROUNDS};
 
 use crate::answer::Answer;
+use crate::preparing::Prepared;
+use loose_core::commit_order;
+use loose_core::laws::reduction;
+use loose_records::Record;
 use report_text::{end_text, rounds_text};
 use seuss_base::{Memory, Outcome};
 use seuss_program::{LastLine, Order, Placed, Program, State};
@@ -51,7 +60,7 @@ pub(crate) fn status_of(last: LastLine) -> u8
 }
 
 /// The report of a run, and the status that the run ends with.
-pub(crate) fn report(
+fn report(
     alloc: Global,
     program: &Program,
     rounds: u32,
@@ -70,4 +79,25 @@ pub(crate) fn report(
         status: status_of(last),
         text,
     })
+}
+
+/// The report of the commit order of a record, and the status that the run ends with.
+pub(crate) fn report_record(
+    alloc: Global,
+    rounds: u32,
+    budget: u64,
+    prepared: &Prepared,
+    made: &Record,
+) -> Result<Answer, Memory>
+    requires prepared { IsPrepared prepared.now }
+    requires rounds { rounds ≤ MOST_ROUNDS }
+    requires budget { (1 ≤ budget) × (budget ≤ MOST_BUDGET) }
+    requires loose { IsLoose (setting_of prepared.now.job.program prepared.now.rows rounds budget) made.now }
+    requires first { made.now.first ≡ initial prepared.now.job.program prepared.now.job.input }
+    ensures { IfOk result (λ a. Reports prepared.now.job.program prepared.now.job.input rounds budget
+        (commit_order_of made.now) made.now.last a.status a.text) }
+{
+    reduction();
+    let order = commit_order(made)?;
+    report(alloc, &prepared.job.program, rounds, &order, &made.last)
 }

@@ -21,6 +21,7 @@ pub fn one_verdict()
     seuss_parser::one_input();
     call_order::laws::one_order_of_levels();
     compat_matrix::laws::one_refusal();
+    safety_texts::laws::one_list();
     crate::split::one_split();
 }
 

@@ -3,12 +3,15 @@
 
 mod actions;
 mod answer;
+mod claims;
 mod commands;
 mod ends;
 mod halt;
 mod laws;
 mod loading;
+mod performing;
 mod preparing;
+mod property_lines;
 mod reading;
 mod split;
 mod top;

@@ -108,7 +108,7 @@ fn ordered_program(alloc: Global, resolved: Resolved) -> Result<Program, Halt>
 }
 
 /// The program that a text spells.
-fn text_program(alloc: Global, text: &[u8]) -> Result<Program, Halt>
+pub(crate) fn text_program(alloc: Global, text: &[u8]) -> Result<Program, Halt>
     ensures meets { Meets (is_spelled >=> is_resolved >=> is_ordered) text.now (λ program. program) result }
     ensures keeps { IfOk result Keeps }
     ensures few { IfOk result (λ p. length p.actions ≤ 256) }
@@ -132,7 +132,7 @@ fn text_input(alloc: Global, text: &[u8]) -> Result<Ints, Halt>
 }
 
 /// The certificates of a program, each of which holds.
-fn held_certificates(alloc: Global, program: &Program) -> Result<List<Certificate>, Halt>
+pub(crate) fn held_certificates(alloc: Global, program: &Program) -> Result<List<Certificate>, Halt>
     requires { Keeps program.now }
     ensures meets { Meets is_certified program.now (λ _. program.now) result }
     ensures held { IfOk result (AreCertificates program.now) }

@@ -3,7 +3,7 @@
 ghost use Rattle.std.specs.Prelude.{◌≡◌, ◌<◌, ◌≤◌, ◌↔◌, All, map, string_bytes, IfOk, IfSome, IsTrue};
 ghost use Rattle.seuss_run.specs.Commands.{number_in, budget_in, run_of, sim_of, tight_of, worker_in};
 ghost use Rattle.seuss_run.specs.declared.words.TheConstants.{MOST_BUDGET};
-ghost use Rattle.seuss_run.specs.Commands.{turns_in, action_in, alone, command_of, BeginsRun, HasLimits};
+ghost use Rattle.seuss_run.specs.Commands.{turns_in, action_in, alone, command_of, HasLimits};
 
 use itoa::Buffer;
 use seuss_base::{List as Items, Memory, Text};
@@ -36,6 +36,8 @@ pub enum Command {
     Check,
     /// Prints the canonical text of a program.
     Print,
+    /// Tells of each of some properties of a program whether it is safe.
+    Prove,
 }
 
 /// The most rounds of a run.
@@ -53,7 +55,7 @@ pub const MOST_BUDGET: u32 = 1_000_000;
 pub const DEFAULT_BUDGET: u32 = 10_000;
 
 /// The most workers.
-pub const MOST_WORKERS: u32 = 1;
+pub const MOST_WORKERS: u32 = 16;
 
 /// The most actions that `tight` attempts.
 pub const MOST_ACTIONS: usize = 10_000;
@@ -154,7 +156,6 @@ fn action_names(alloc: Global, word: &str) -> Result<Option<(Text, Text)>, Memor
     Ok(Some((owner, action)))
 }
 
-/// The command with no words after it.
 /// The command `sim` with these words after it.
 fn sim_command(alloc: Global, words: &[String]) -> Result<Option<Command>, Memory>
     ensures is { IfOk result (λ o. o ≡ sim_of (map string_bytes words.now)) }
@@ -230,16 +231,7 @@ pub fn read_words(alloc: Global, words: &[String]) -> Result<Option<Command>, Me
         "matrix" => Ok(alone(Command::Matrix, others)),
         "check" => Ok(alone(Command::Check, others)),
         "print" => Ok(alone(Command::Print, others)),
+        "prove" => Ok(alone(Command::Prove, others)),
         _ => Ok(None),
-    }
-}
-
-/// The first word is `run`.
-pub(crate) fn asks_run(words: &[String]) -> bool
-    ensures { IsTrue result ↔ BeginsRun (map string_bytes words.now) }
-{
-    match words.split_first() {
-        Some((name, _)) => name.as_str() == "run",
-        None => false,
     }
 }

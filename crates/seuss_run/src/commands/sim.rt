@@ -17,13 +17,11 @@ ghost use Rattle.seuss_run.specs.declared.reading.TheConstants.{MOST_BYTES};
 ghost use Rattle.loose_records.specs.Settings.{setting_of};
 
 use crate::answer::Answer;
-use crate::ends::{is_too_long, report};
+use crate::ends::{is_too_long, report_record};
 use crate::halt::Halt;
 use crate::loading::{Job, load};
 use crate::preparing::{Prepared, prepare};
 use crate::words::Command;
-use loose_core::commit_order;
-use loose_core::laws::reduction;
 use loose_records::Record;
 use loose_records::laws::record_of_turns_is_loose;
 use meaning_laws::forms::starts_in_form;
@@ -89,10 +87,8 @@ fn report_turns(
     ensures { IfOk result (λ a. IsSimulated (prepared.now.job.program, prepared.now.job.input) rounds width
         turns.now budget a.status a.text) }
 {
-    reduction();
     let made = record_turns(alloc, rounds, width, turns, budget, prepared)?;
-    let order = commit_order(&made)?;
-    report(alloc, &prepared.job.program, rounds, &order, &made.last)
+    report_record(alloc, rounds, budget, prepared, &made)
 }
 
 /// Runs a program by turns where its run isn't too long.

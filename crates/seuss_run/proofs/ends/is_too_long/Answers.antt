@@ -2,7 +2,7 @@ use Rattle.std.proofs.Common.{rules, ◌≡◌, ◌*◌, ◌<◌, ◌↔◌, len
 use Rattle.seuss_program.specs.Orders.{slots_of}
 use Rattle.seuss_run.specs.Verdicts.{attempts_in}
 use Rattle.seuss_run.specs.declared.ends.TheConstants.{MOST_ATTEMPTS}
-use Rattle.seuss_run.proofs.InTurn.{slots_length}
+use Rattle.seuss_run.proofs.RecordReports.{slots_length}
 use Rattle.seuss_run.proofs.ends.is_too_long.Goals as goal
 
 -- there are as many slots as actions

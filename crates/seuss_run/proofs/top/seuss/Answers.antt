@@ -1,38 +1,31 @@
 use Rattle.std.proofs.Common.{map, string_bytes}
-use Rattle.seuss_run.proofs.StillCommands.{known_still}
-use Rattle.seuss_run.proofs.TopLemmas.{any_after_fault}
+use Rattle.seuss_run.specs.Served.{IsAny}
+use Rattle.seuss_run.proofs.TopLemmas.{answers_complete, answers_refused, answers_front}
 use Rattle.seuss_run.proofs.top.seuss.Goals as goal
 
--- the words don't begin with `run`, so what they ask for waits for no other thread
-pub returns-else-asks_run-clause-complete : goal.returns-else-asks_run-clause-complete
-returns-else-asks_run-clause-complete g c = λ d bytes task any spelled.
-    let words = map string_bytes c.args.words.now in
-    c.seuss_still.ensures.complete d bytes task
-    (known_still words (λ begins. cc (c.asks_run.ensures.1 begins, c.if-asks_run.false)) d spelled) spelled
+-- what is answered is complete
+pub returns-in-Ok-write_all-clause-complete : goal.returns-in-Ok-write_all-clause-complete
+returns-in-Ok-write_all-clause-complete g c =
+    answers_complete c.one_verdict.ensures IsAny
+    (map string_bytes c.args.words.now) (g.R.Source.left c.args.source.now)
+    (g.R.Source.left c.answer.new.source) c.in-Ok.answer.status c.in-Ok.answer.text c.in-Ok.ensures.ends
 
-pub returns-else-asks_run-clause-refused_exactly : goal.returns-else-asks_run-clause-refused_exactly
-returns-else-asks_run-clause-refused_exactly g c = λ d bytes why any spelled.
-    let words = map string_bytes c.args.words.now in
-    c.seuss_still.ensures.refused_exactly d bytes why
-    (known_still words (λ begins. cc (c.asks_run.ensures.1 begins, c.if-asks_run.false)) d spelled) spelled
+-- the line of a refusal was written
+pub returns-in-Ok-write_all-clause-refused : goal.returns-in-Ok-write_all-clause-refused
+returns-in-Ok-write_all-clause-refused g c = λ three.
+    answers_refused IsAny (map string_bytes c.args.words.now)
+    (g.R.Source.left c.args.source.now) (g.R.Source.left c.answer.new.source)
+    c.in-Ok.answer.status c.in-Ok.answer.text c.in-Ok.ensures.ends
+    (g.W.Sink.written c.args.sink.now) (g.W.Sink.written c.write_all.new.sink) three
+    (rw c.as_bytes.ensures at c.in-Ok-write_all.ensures.all)
 
-pub returns-else-asks_run-clause-usage : goal.returns-else-asks_run-clause-usage
-returns-else-asks_run-clause-usage g c = λ four.
-    let words = map string_bytes c.args.words.now in
-    let told = c.seuss_still.ensures.usage four in (
-      λ d any spelled. told.0 d (known_still words
-          (λ begins. cc (c.asks_run.ensures.1 begins, c.if-asks_run.false)) d spelled) spelled,
-      told.1,
-      told.2,
-    )
-
-pub returns-else-asks_run-clause-write_fault : goal.returns-else-asks_run-clause-write_fault
-returns-else-asks_run-clause-write_fault g c = λ six.
-    let words = map string_bytes c.args.words.now in
-    let told = c.seuss_still.ensures.write_fault six in (
-      told.0,
-      any_after_fault words (known_still words
-          (λ begins. cc (c.asks_run.ensures.1 begins, c.if-asks_run.false)))
-          (g.R.Source.left c.args.source.now) (g.R.Source.left c.seuss_still.new.source)
-          (g.W.Sink.written c.args.sink.now) (g.W.Sink.written c.seuss_still.new.sink) told.1,
-    )
+-- a front of the text was written
+pub returns-clause-write_fault : goal.returns-clause-write_fault
+returns-clause-write_fault g c = λ six. (
+  c.in-Err.ensures.failed,
+  answers_front IsAny (map string_bytes c.args.words.now)
+      (g.R.Source.left c.args.source.now) (g.R.Source.left c.answer.new.source)
+      c.in-Ok.answer.status c.in-Ok.answer.text c.in-Ok.ensures.ends
+      (g.W.Sink.written c.args.sink.now) (g.W.Sink.written c.write_all.new.sink)
+      (rw c.as_bytes.ensures at c.in-Err.ensures.front),
+)

@@ -6,7 +6,7 @@ use Rattle.seuss_run.specs.Verdicts.{Running, attempts_in}
 use Rattle.seuss_run.specs.declared.ends.TheConstants.{MOST_ATTEMPTS}
 use Rattle.seuss_run.specs.declared.loading.Job.{Job}
 use Rattle.seuss_run.proofs.PerformLemmas.{low_status, within}
-use Rattle.seuss_run.proofs.TurnReports.{few_attempts}
+use Rattle.seuss_run.proofs.RecordReports.{few_attempts}
 use Rattle.seuss_run.proofs.commands.sim.run_short.Goals as goal
 
 -- few attempts are few for each round of actions
