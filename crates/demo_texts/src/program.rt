@@ -4,7 +4,7 @@ ghost use Rattle.std.specs.Prelude.{◌≡◌, ◌≤◌, ◌+◌, ◌-◌, ◌+
 ghost use Rattle.std.specs.List.{flat_map, range_with_len};
 ghost use Rattle.demo_texts.specs.Demos.{cats_text, channel_line, demo_text, relay_line};
 
-use itoa::Buffer;
+use report_text::push_number;
 use seuss_base::{Memory, Text};
 use std::alloc::Global;
 
@@ -36,21 +36,12 @@ cat Relay(a : Channel, b : Channel)
 end
 ";
 
-/// Puts a number in decimal digits at the end.
-fn push_number(text: &mut Text, n: u32) -> Result<(), Memory>
-    ensures { OnOk result (text.new ≡ text.old ++ decimal n) }
-{
-    let mut buffer = Buffer::new();
-    text.push_all(buffer.format(n).as_bytes())?;
-    Ok(())
-}
-
 /// Puts the line of a channel at the end.
 fn push_channel(text: &mut Text, number: u32) -> Result<(), Memory>
     ensures { OnOk result (text.new ≡ text.old ++ channel_line number) }
 {
     text.push_all(b"box c")?;
-    push_number(text, number)?;
+    push_number(text, u64::from(number))?;
     text.push_all(b" : Channel\n")
 }
 
@@ -60,11 +51,11 @@ fn push_relay(text: &mut Text, number: u32) -> Result<(), Memory>
     ensures { OnOk result (text.new ≡ text.old ++ relay_line number) }
 {
     text.push_all(b"box r")?;
-    push_number(text, number)?;
+    push_number(text, u64::from(number))?;
     text.push_all(b" : Relay(c")?;
-    push_number(text, number - 1)?;
+    push_number(text, u64::from(number - 1))?;
     text.push_all(b", c")?;
-    push_number(text, number)?;
+    push_number(text, u64::from(number))?;
     text.push_all(b")\n")
 }
 

@@ -18,6 +18,7 @@ use loose_settings::laws::levels_make_a_setting;
 use meaning_laws::forms::starts_in_form;
 use method_code::{Code, Plan, compile};
 use report_text::end_text;
+use run_records::record_text;
 use seuss_base::{CompatRows, Ints, List, Memory, Outcome};
 use seuss_program::{LastLine, Order, Program, State, initial_state};
 use std::alloc::Global;
@@ -390,5 +391,24 @@ fn trap_by_two(rt: HostRuntime) -> Result<(), Fail> {
 fn trap_by_three(rt: HostRuntime) -> Result<(), Fail> {
     let seen = replay_words(rt.alloc(), TRAP, 3)?;
     assert!(rt; seen.finishes > 0 && seen.stops == 9841);
+    Ok(())
+}
+
+/// A counter.
+const COUNTER: &str =
+    "seuss 1 cat Counter var n : int action tick when true -> n := n + 1 end end box a : Counter";
+
+/// The text of a record has the entries of the scheduler, and then those of each box, with the stamps by which they
+/// follow one another.
+#[test]
+fn a_record_is_spelled(rt: HostRuntime) -> Result<(), Fail> {
+    let alloc = rt.alloc();
+    let prepared = prepare(alloc, COUNTER)?;
+    let made = record_of(alloc, &prepared, 1, &[])?;
+    let text = record_text(alloc, &Ints::new(alloc), ROUNDS, BUDGET, &made)?;
+    let spelled =
+        "record 2 1000\ninput\nstart 0 loose 1\nfinish 0 accepted kept 3\nstart 1 loose 4\n\
+        finish 1 accepted kept 6\nbox 0\nstep 0 2\nstep 1 5\nend\n";
+    assert_eq!(rt; text.as_bytes(), spelled.as_bytes());
     Ok(())
 }
